@@ -1,0 +1,10 @@
+//! Options of the programs.
+
+/// The number after the option, the usual one where the option is not given, or nothing where it
+/// is not a number.
+pub fn number(words: &[String], option: &str, usual: u64) -> Option<u64> {
+    match words.iter().position(|word| word == option) {
+        Some(i) => words.get(i + 1)?.parse().ok(),
+        None => Some(usual),
+    }
+}

@@ -1,0 +1,145 @@
+//! Calls: accepted ones with slices of exact or greater length, and such calls spoiled so that one
+//! row of 01's table, or two, or the end of a range, comes into play.
+
+use original::exposed::Settings;
+
+use super::series::TIME_LIMIT;
+use super::{floats, series, settings};
+use crate::call::{Call, Case};
+use crate::rng::Rng;
+use crate::{judge, rows};
+
+const MOST: i64 = rows::MOST as i64;
+
+pub fn case(rng: &mut Rng, call: Call) -> Case {
+    let mut case = accepted(rng, call);
+    let spoils = rng.pick(&[0, 0, 0, 1, 1, 2]);
+    for _ in 0..spoils {
+        spoil(rng, call, &mut case);
+    }
+    case
+}
+
+/// A call that 01 accepts.
+pub fn accepted(rng: &mut Rng, call: Call) -> Case {
+    let n = series::length(rng);
+    let (timestamps, values) = series::series(rng, n);
+    let most = rng.pick(&[1, 2, 3, 10, 40]);
+    let settings = settings::settings(rng, &timestamps, most);
+    let mut case = Case {
+        timestamps,
+        values: values.iter().map(|v| v.to_bits()).collect(),
+        pre: rng.below(5) as u32,
+        rollup: rng.below(48) as u32,
+        first: floats::parameter(rng),
+        second: floats::parameter(rng),
+        settings,
+        reach: 0,
+        dst_values: vec![],
+        prepared: vec![],
+        work: vec![],
+    };
+    if call == Call::SettledRun {
+        settled(rng, &mut case);
+    }
+    let points = rows::points(&case) as usize;
+    case.dst_values = slice(rng, points);
+    case.prepared = slice(rng, n);
+    case.work = slice(rng, 2 * n);
+    case
+}
+
+/// As many readings as 01 allows, and one more, with no slice lent.
+pub fn longest() -> impl Iterator<Item = Case> {
+    [MOST, MOST + 1].into_iter().map(|n| Case {
+        timestamps: (0..n).collect(),
+        values: vec![0; n as usize],
+        pre: 1,
+        rollup: 0,
+        first: 0.5,
+        second: 0.5,
+        settings: Settings { step: 1, window: 1, ..Settings::default() },
+        reach: 1,
+        dst_values: vec![],
+        prepared: vec![],
+        work: vec![],
+    })
+}
+
+/// The window and reach that a run would settle, or any others.
+fn settled(rng: &mut Rng, case: &mut Case) {
+    let (window, reach) = judge::settle(&case.settings, &case.timestamps);
+    let any = [1, 2, 1000, 1 << 51, 1 << 52, rng.between(1, 1 << 52), rng.between(1, 100_000)];
+    case.settings.window = if rng.once_in(3) { rng.pick(&any) } else { window };
+    case.reach = if rng.once_in(3) { rng.pick(&any) } else { reach };
+}
+
+/// A slice filled with rubbish, of this length or a little longer.
+fn slice(rng: &mut Rng, length: usize) -> Vec<u64> {
+    let longer = rng.pick(&[0, 0, 1, 7]);
+    (0..length + longer).map(|_| rng.bits()).collect()
+}
+
+/// Breaks a row, or goes to the end of a range that it still accepts. Rows that the call does not
+/// read are broken too: it must not mind.
+fn spoil(rng: &mut Rng, call: Call, case: &mut Case) {
+    let n = case.timestamps.len() as u64;
+    let place = rng.below(n.max(1)) as usize;
+    let s = &mut case.settings;
+    match rng.below(15) {
+        1 if rng.once_in(2) => case.values.push(0),
+        1 => case.values.truncate(place),
+        3 if n > 0 => case.timestamps[place] = outside(rng, -TIME_LIMIT, TIME_LIMIT),
+        4 if place > 0 => case.timestamps[place] = not_above(rng, case.timestamps[place - 1]),
+        5 if n > 0 && place < case.values.len() => case.values[place] = not_finite(rng),
+        6 => s.step = outside(rng, 1, TIME_LIMIT),
+        7 => bounds(rng, s),
+        8 if call == Call::SettledRun && rng.once_in(2) => case.reach = outside(rng, 1, 1 << 52),
+        8 if call == Call::SettledRun => s.window = outside(rng, 1, 1 << 52),
+        8 => s.window = outside(rng, 0, TIME_LIMIT),
+        9 => limits(rng, s),
+        10 if s.step > 0 => {
+            let scanned = s.end.saturating_sub(s.start) / s.step.saturating_add(1);
+            s.max_points_per_series = scanned - rng.between(0, 1);
+        }
+        11 => (s.start, s.end, s.step) = (-1, rng.pick(&[MOST - 2, MOST - 1, TIME_LIMIT]), 1),
+        12 => case.dst_values.truncate(case.dst_values.len().saturating_sub(1)),
+        13 => case.prepared.truncate(n.saturating_sub(1) as usize),
+        14 => case.work.truncate((2 * n).saturating_sub(1) as usize),
+        0 if rng.once_in(2) => case.pre = rng.pick(&[5, 6, u32::MAX]),
+        0 => case.rollup = rng.pick(&[48, 49, u32::MAX]),
+        _ => {}
+    }
+}
+
+/// An end of the range, the number beyond it, or one far outside.
+fn outside(rng: &mut Rng, low: i64, high: i64) -> i64 {
+    rng.pick(&[low, high, low - 1, low - 1, high + 1, high + 1, i64::MIN, i64::MAX])
+}
+
+fn not_above(rng: &mut Rng, time: i64) -> i64 {
+    time.saturating_sub(rng.pick(&[0, 0, 1, 1000]))
+}
+
+fn not_finite(rng: &mut Rng) -> u64 {
+    let infinities = [f64::INFINITY.to_bits(), f64::NEG_INFINITY.to_bits()];
+    rng.pick(&[&floats::NANS[..], &infinities].concat())
+}
+
+fn bounds(rng: &mut Rng, s: &mut Settings) {
+    match rng.below(4) {
+        0 => s.start = outside(rng, -TIME_LIMIT, TIME_LIMIT),
+        1 => s.end = outside(rng, -TIME_LIMIT, TIME_LIMIT),
+        2 => s.start = s.end.saturating_add(1),
+        _ => s.end = s.start,
+    }
+}
+
+fn limits(rng: &mut Rng, s: &mut Settings) {
+    match rng.below(4) {
+        0 => s.lookback_delta = outside(rng, 0, TIME_LIMIT),
+        1 => s.min_staleness_interval = outside(rng, 0, TIME_LIMIT),
+        2 => s.max_points_per_series = outside(rng, 0, TIME_LIMIT),
+        _ => s.samples_scanned_per_call = rng.pick(&[65_535, 65_536, u64::MAX]),
+    }
+}

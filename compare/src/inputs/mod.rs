@@ -1,0 +1,6 @@
+//! Generated inputs: values with the corners of binary64, series of readings, grids and settings.
+
+pub mod cases;
+pub mod floats;
+pub mod series;
+pub mod settings;

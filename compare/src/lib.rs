@@ -1,0 +1,15 @@
+//! The Rust as the judge of the port: what it answers, generated inputs, the fixed lists for the
+//! gate, and the comparison with the exported functions.
+
+pub mod arguments;
+pub mod call;
+pub mod inputs;
+pub mod judge;
+pub mod lists;
+pub mod oracle;
+pub mod port;
+pub mod rng;
+pub mod rows;
+pub mod rules;
+pub mod shrink;
+pub mod words;

@@ -1,0 +1,8 @@
+-- Laws that several proofs cite, here and in the crates above.
+pub mod Patterns
+pub mod Exact
+pub mod Units
+pub mod Order
+pub mod Whole
+pub mod Floors
+mod Examples

@@ -1,0 +1,4 @@
+pub mod Grid
+pub mod Later
+pub mod Milli
+pub mod Readings
