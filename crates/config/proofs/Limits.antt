@@ -1,0 +1,108 @@
+-- Window and reach of an accepted settle lie in 1..2^52, so a settled run that is given them passes its row 8.
+-- Assumes nothing.
+use Prim.Native.Nat.{ℕ, _+_, _*_, _/_, _^_, _≤_, _<_, min, max}
+use native.Mathlib.Omega.{arith}
+use mathlib.Core.Path.{_≡_, refl, sym, _∙_}
+use mathlib.Core.Bool.{Bool, true, false, cond}
+use mathlib.Core.List.{List, [], _∷_}
+use borrow.Author.Tests.{leb-true, leb-false, ltb-true, ltb-false, le-leb, lt-ltb, le-ltb}
+use lib.Dec.{leb, ltb}
+use lib.IntN.{ℤ, pos, negsuc, natAbs}
+use lib.Signed.{leZ}
+use Rattle.times.specs.Milli.{timeLimit}
+use Rattle.times.proofs.Order.{by-test}
+use Rattle.series.specs.Refusals.{firstOf}
+use Rattle.series.specs.Rows.{timesChecked}
+use Rattle.series.specs.declared.refusal.Checked.{Checked}
+use Rattle.series.specs.declared.refusal.Checked.the-variants.{Accepted, Refused}
+use Rattle.series.proofs.Accepted.{all-accept}
+use Rattle.config.specs.declared.settings.RollupConfig.{RollupConfig}
+use Rattle.config.specs.declared.settle.Settled.{Settled}
+use Rattle.config.specs.declared.settle.Settled.the-variants.{Accepted as SettledTo, Refused as NotSettled}
+use Rattle.config.specs.Estimate.{estimateOf}
+use Rattle.config.specs.Reach.{reachOf, cappedBy, boundedReach, raisedStep, windowOf}
+use Rattle.config.specs.Rows.{outside, settledLimit, settledRow8, settingsChecked, settledOutside}
+use Rattle.config.specs.Settle.{settledReach, settledWindow, settled, unlessRefused, settleOf}
+use Rattle.config.proofs.Distances.{not-falling, within}
+use Rattle.config.proofs.Estimates.{estimate-small, estimate-some}
+use Rattle.config.proofs.Passed.{UpTo, Passed, settings-passed}
+
+-- from 1 to 2^52
+pub record Settleable (n : ℕ) : Type 0 where
+  pub some : 0 < n
+  pub small : n ≤ settledLimit
+
+-- ---- numbers
+
+reach-settleable : (e : ℕ) → 0 < e → e ≤ 2 ^ 51 → Settleable (reachOf e)
+unfolding reachOf
+reach-settleable e some small =
+    by-test (leb e 2000) (λ a. rw a (record { some = omega arith; small = omega (arith, leb-true e 2000 a) }))
+    (λ a. by-test (leb e 4000) (λ b. rw (a, b) (record { some = omega arith; small = omega (arith, leb-true e 4000 b) }))
+    (λ b. by-test (leb e 8000) (λ c. rw (a, b, c) (record { some = omega arith; small = omega (arith, leb-true e 8000 c) }))
+    (λ c. by-test (leb e 16000) (λ d. rw (a, b, c, d) (record { some = omega arith; small = omega arith }))
+    (λ d. by-test (leb e 32000) (λ f. rw (a, b, c, d, f) (record { some = omega arith; small = omega arith }))
+    (λ f. rw (a, b, c, d, f) (record { some = omega arith; small = omega arith }))))))
+
+capped-settleable : (limit n : ℕ) → Settleable n → Settleable (cappedBy limit n)
+capped-settleable limit n h =
+    by-test (ltb 0 limit) (λ e. rw e (record { some = omega (arith, ltb-true 0 limit e, h .some); small = omega (arith, h .small) })) (λ e. rw e h)
+
+bounded-settleable : (lookback staleness r : ℕ) → staleness ≤ timeLimit → Settleable r → Settleable (boundedReach lookback staleness r)
+unfolding boundedReach
+bounded-settleable lookback staleness r s h =
+    let k = capped-settleable lookback r h in
+    record { some = omega (arith, k .some); small = omega (arith, k .small) }
+
+raised-settleable : (step : ℕ) (adjust : Bool) (reach : ℕ) → Settleable step → Settleable reach → Settleable (raisedStep step adjust reach)
+raised-settleable step true reach s h = record { some = omega (arith, s .some); small = omega (arith, s .small, h .small) }
+raised-settleable step false reach s h = s
+
+window-settleable : (window step : ℕ) (adjust default : Bool) (lookback reach : ℕ) → window ≤ timeLimit → Settleable step → Settleable reach → Settleable (windowOf window step adjust default lookback reach)
+unfolding windowOf
+window-settleable window step adjust default lookback reach w s h =
+    let r = raised-settleable step adjust reach s h in
+    by-test (ltb 0 window) (λ e. rw e (record { some = ltb-true 0 window e; small = omega arith }))
+    (λ e. rw e (implied default (raisedStep step adjust reach) r))
+  where
+    implied : (flag : Bool) (n : ℕ) → Settleable n → Settleable (cond flag (cappedBy lookback n) n)
+    implied true n k = capped-settleable lookback n k
+    implied false n k = k
+
+positive : (x : ℤ) → leZ (pos 1) x ≡ true → 0 < natAbs x
+positive (pos n) e = leb-true 1 n e
+positive (negsuc n) e = omega arith
+
+-- ---- accepted times and settings
+
+module _ (ts : List ℤ) (rc : RollupConfig) (times : timesChecked ts ≡ Accepted) (settings : settingsChecked rc ≡ Accepted) where
+  pub reach-in : Settleable (settledReach ts rc)
+  unfolding settledReach
+  reach-in =
+      bounded-settleable _ _ _ (settings-passed rc settings .staleness .small)
+      (reach-settleable (estimateOf ts) (estimate-some ts) (estimate-small ts (not-falling ts times) (within ts times)))
+
+  pub window-in : Settleable (settledWindow ts rc)
+  unfolding settledWindow
+  window-in =
+      let p = settings-passed rc settings in
+      window-settleable (natAbs (rc .window)) (natAbs (rc .step)) _ _ _ _ (p .window .small) (record { some = positive (rc .step) (p .spans .step-positive); small = omega (arith, p .step .small) }) reach-in
+
+-- ---- the law
+
+inside : (n : ℕ) → Settleable n → outside (pos 1) (pos settledLimit) (pos n) ≡ false
+unfolding outside
+inside n h = rw (le-ltb n 1 (h .some), le-ltb settledLimit n (h .small))
+
+accepted : (c : Checked) (s : Settled) (w r : ℤ) (n : ℕ) → unlessRefused c s ≡ SettledTo w r n → (c ≡ Accepted) × (s ≡ SettledTo w r n)
+accepted Accepted s w r n e = (refl, e)
+accepted (Refused x) s w r n e = absurd (let clash : _≡_ {A = ℕ} 0 1 = cc in omega arith)
+
+pub settled-in-range : (ts : List ℤ) (rc : RollupConfig) (w r : ℤ) (n : ℕ) → settleOf ts rc ≡ SettledTo w r n → settledRow8 w r ≡ Accepted
+unfolding settleOf settledOutside
+settled-in-range ts rc w r n e =
+    let both = accepted (firstOf (timesChecked ts ∷ settingsChecked rc ∷ [])) (settled ts rc) w r n e in
+    let rows = all-accept (timesChecked ts ∷ settingsChecked rc ∷ []) (both .0) in
+    let window : w ≡ pos (settledWindow ts rc) = cc (both .1) in
+    let reach : r ≡ pos (settledReach ts rc) = cc (both .1) in
+    rw (window, reach, inside (settledWindow ts rc) (window-in ts rc (rows .0) (rows .1 .0)), inside (settledReach ts rc) (reach-in ts rc (rows .0) (rows .1 .0)))

@@ -1,0 +1,124 @@
+-- What settings that rows 6 to 11 let pass are known to be.
+-- Assumes nothing.
+use Prim.Native.Nat.{ℕ, zero, suc, _≤_}
+use native.Mathlib.Omega.{arith}
+use mathlib.Core.Path.{_≡_, refl, sym, subst, _∙_}
+use mathlib.Core.Bool.{Bool, true, false, _||_, false≢true}
+use mathlib.Core.List.{List, [], _∷_}
+use borrow.Author.Tests.{leb-true, ltb-false, not-false}
+use lib.IntN.{ℤ, pos, negsuc, negℤ, natAbs}
+use lib.Dec.{T}
+use lib.Signed.{ltZ, leZ, nonNeg}
+use mir.Syntax.{w64}
+use mir.Val.{Fits, SFits, toZ, ofZ}
+use mir.Facts.{toZ-ofZ}
+use Rattle.times.specs.Milli.{timeLimit, Within}
+use Rattle.times.specs.Grid.{Spans, gridSize}
+use Rattle.times.proofs.Milli.{within-fits}
+use Rattle.times.proofs.Order.{lt-not-le}
+use Rattle.series.specs.Refusals.{firstOf}
+use Rattle.series.specs.declared.refusal.Refusal.the-variants.{StepOutside, SpanOutside, WindowOutside, SettingOutside}
+use Rattle.series.specs.declared.refusal.Checked.{Checked}
+use Rattle.series.specs.declared.refusal.Checked.the-variants.{Accepted, Refused}
+use Rattle.series.proofs.Accepted.{all-accept, fails}
+use Rattle.config.specs.declared.settings.RollupConfig.{RollupConfig}
+use Rattle.config.specs.Rows.{outside, spanOutside, settingOutside, perCallOver, row6, row7, row8, row9, gridChecked, settingsChecked}
+
+-- x is a number of ℕ, at most k
+pub record UpTo (k : ℕ) (x : ℤ) : Type 0 where
+  pub whole : pos (natAbs x) ≡ x
+  pub small : natAbs x ≤ k
+
+-- what rows 6 to 9 let pass
+pub record Passed (rc : RollupConfig) : Type 0 where
+  pub spans : Spans (rc .start) (rc .end) (rc .step)
+  pub step : UpTo timeLimit (rc .step)
+  pub window : UpTo timeLimit (rc .window)
+  pub lookback : UpTo timeLimit (rc .«lookback_delta»)
+  pub staleness : UpTo timeLimit (rc .«min_staleness_interval»)
+
+-- ---- rows that accept
+
+pub last-row : (row : Checked) → firstOf (row ∷ []) ≡ row
+last-row Accepted = refl
+last-row (Refused r) = refl
+
+or-false : (a b : Bool) → (a || b) ≡ false → (a ≡ false) × (b ≡ false)
+or-false true b e = absurd (let z : _≡_ {A = ℕ} 0 1 = cc in omega arith)
+or-false false b e = (refl, e)
+
+-- ---- ranges
+
+not-below : (a b : ℤ) → ltZ a b ≡ false → leZ b a ≡ true
+not-below a b e = not-false (leZ b a) (sym (lt-not-le a b) ∙ e)
+
+pub inside : (lo hi x : ℤ) → outside lo hi x ≡ false → (leZ lo x ≡ true) × (leZ x hi ≡ true)
+unfolding outside
+inside lo hi x e =
+    let both = or-false (ltZ x lo) (ltZ hi x) e in
+    (not-below x lo (both .0), not-below hi x (both .1))
+
+up-to : (k : ℕ) (x : ℤ) → outside (pos 0) (pos k) x ≡ false → UpTo k x
+up-to k (pos n) e = record { whole = refl; small = leb-true n k (inside (pos 0) (pos k) (pos n) e .1) }
+up-to k (negsuc n) e = absurd (false≢true (inside (pos 0) (pos k) (negsuc n) e .0))
+
+positive : (k : ℕ) (x : ℤ) → outside (pos 1) (pos k) x ≡ false → UpTo k x
+positive k (pos n) e = record { whole = refl; small = leb-true n k (inside (pos 1) (pos k) (pos n) e .1) }
+positive k (negsuc n) e = absurd (false≢true (inside (pos 1) (pos k) (negsuc n) e .0))
+
+either : (k : ℕ) (x : ℤ) → outside (negℤ (pos k)) (pos k) x ≡ false → Within k x
+either k (pos n) e = record { size = leb-true n k (inside (negℤ (pos k)) (pos k) (pos n) e .1) }
+either zero (negsuc n) e = absurd (false≢true (inside (pos 0) (pos 0) (negsuc n) e .0))
+either (suc k) (negsuc n) e = record { size = omega (arith, leb-true n k (inside (negsuc k) (pos (suc k)) (negsuc n) e .0)) }
+
+-- such a number is an `i64`, and a `u64` too
+pub up-to-fits : {x : ℤ} → UpTo timeLimit x → SFits w64 x
+up-to-fits h = within-fits tt (record { size = h .small })
+
+pub castable : {x : ℤ} → UpTo timeLimit x → T (nonNeg (toZ w64 (ofZ w64 x))) × Fits w64 (natAbs (toZ w64 (ofZ w64 x)))
+castable {x} h = rw (toZ-ofZ (up-to-fits h)) (subst (λ (z : ℤ). T (nonNeg z)) (h .whole) tt, record { fits = omega (arith, h .small) })
+
+-- ---- settings
+
+pub spans : (start end step : ℤ) → outside (pos 1) (pos timeLimit) step ≡ false → spanOutside start end ≡ false → Spans start end step
+unfolding spanOutside
+spans start end step six seven =
+    let ends = or-false (outside (negℤ (pos timeLimit)) (pos timeLimit) start || outside (negℤ (pos timeLimit)) (pos timeLimit) end) (ltZ end start) seven in
+    let each = or-false (outside (negℤ (pos timeLimit)) (pos timeLimit) start) (outside (negℤ (pos timeLimit)) (pos timeLimit) end) (ends .0) in
+    record {
+      start-within = either timeLimit start (each .0);
+      end-within = either timeLimit end (each .1);
+      ordered = not-below end start (ends .1);
+      step-positive = inside (pos 1) (pos timeLimit) step six .0;
+      step-within = record { size = positive timeLimit step six .small };
+    }
+
+module _ (rc : RollupConfig) where
+  abbrev ranges : List Checked
+  ranges =
+      row6 (rc .step)
+      ∷ row7 (rc .start) (rc .end)
+      ∷ row8 (rc .window)
+      ∷ row9 (rc .«lookback_delta») (rc .«min_staleness_interval») (rc .«max_points_per_series») (rc .«samples_scanned_per_call»)
+      ∷ []
+
+  pub ranges-passed : firstOf ranges ≡ Accepted → Passed rc
+  unfolding settingOutside
+  ranges-passed e =
+      let each = all-accept ranges e in
+      let lookback = outside (pos 0) (pos timeLimit) (rc .«lookback_delta») in
+      let staleness = outside (pos 0) (pos timeLimit) (rc .«min_staleness_interval») in
+      let limit = outside (pos 0) (pos timeLimit) (rc .«max_points_per_series») in
+      let nine = or-false (lookback || staleness || limit) (perCallOver (rc .«samples_scanned_per_call»)) (fails _ SettingOutside (each .1 .1 .1 .0)) in
+      let two = or-false lookback staleness (or-false (lookback || staleness) limit (nine .0) .0) in
+      record {
+        spans = spans (rc .start) (rc .end) (rc .step) (fails _ StepOutside (each .0)) (fails _ SpanOutside (each .1 .0));
+        step = positive timeLimit (rc .step) (fails _ StepOutside (each .0));
+        window = up-to timeLimit (rc .window) (fails _ WindowOutside (each .1 .1 .0));
+        lookback = up-to timeLimit (rc .«lookback_delta») (two .0);
+        staleness = up-to timeLimit (rc .«min_staleness_interval») (two .1);
+      }
+
+  pub settings-passed : settingsChecked rc ≡ Accepted → Passed rc
+  unfolding settingsChecked
+  settings-passed e = ranges-passed (all-accept (firstOf ranges ∷ gridChecked (rc .start) (rc .end) (rc .step) (rc .«max_points_per_series») ∷ []) e .0)

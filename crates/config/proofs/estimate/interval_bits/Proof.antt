@@ -1,0 +1,72 @@
+-- `estimate::interval_bits` meets its contract: two accepted times are near enough for their distance to fit.
+-- Assumes nothing.
+use Prim.Native.Nat.{ℕ, _+_}
+use mathlib.Core.Path.{_≡_, _∙_, sym, ap}
+use native.Mathlib.Omega.{arith}
+use native.Mathlib.Numerals.{add-one}
+use borrow.Author.Needs.{needs}
+use lib.IntN.{ℤ, pos, _-ℤ_}
+use lib.Ieee.{binary64, ofInt, toBits}
+use lib.ListN.{getD}
+use mir.Syntax.{w64}
+use mir.Val.{SFits}
+use mir.Facts.{toZ-ofZ}
+use Rattle.times.proofs.Milli.{within-sub, within-fits}
+use Rattle.config.specs.Estimate.{distances}
+use Rattle.config.proofs.Distances.{distance-at, within}
+use Rattle.config.proofs.estimate.interval_bits.Statement.{statement}
+use Rattle.config.proofs.estimate.interval_bits.Tie as tie
+
+add-of-difference : tie.Need-add-of-difference
+add-of-difference c = search needs
+
+mul-of-difference : tie.Need-mul-of-difference
+mul-of-difference c = search needs
+
+shared-slice-copy-out-of-difference : tie.Need-shared-slice-copy-out-of-difference
+shared-slice-copy-out-of-difference c = search needs
+
+mul-of-difference-2 : tie.Need-mul-of-difference-2
+mul-of-difference-2 c = omega arith
+
+shared-slice-copy-out-of-difference-2 : tie.Need-shared-slice-copy-out-of-difference-2
+shared-slice-copy-out-of-difference-2 c = omega arith
+
+module _ (c : tie.After-of-difference-arg2) where
+  abbrev s : tie.Start
+  s = c .before .before
+
+  abbrev at : ℕ → ℤ
+  at k = getD (s .args .timestamps .now) k (pos 0)
+
+  first : SFits w64 (at (s .args .i))
+  first = record { sfits = c .of-difference-arg2 .given }
+
+  second : SFits w64 (at (s .args .i + 1))
+  second = record { sfits = c .before .of-difference-arg .given }
+
+  distance : SFits w64 (at (s .args .i + 1) -ℤ at (s .args .i))
+  distance =
+      within-fits tt
+      (within-sub (within (s .args .timestamps .now) (s .pre .0) (s .args .i + 1) (s .pre .1)) (within (s .args .timestamps .now) (s .pre .0) (s .args .i) (omega (arith, s .pre .1))))
+
+sub-of-difference : tie.Need-sub-of-difference
+sub-of-difference c = rw (toZ-ofZ (second c), toZ-ofZ (first c)) (distance c)
+
+of-difference-requires : tie.Need-of-difference-requires
+of-difference-requires c κs = search needs
+
+bits-of-requires : tie.Need-bits-of-requires
+bits-of-requires c κs = search needs
+
+returns : tie.Need-returns
+returns c =
+    let d = c .before .before in
+    let i = s d .args .i in
+    let same : at d (i + 1) -ℤ at d i ≡ getD (distances (s d .args .timestamps .now)) i (pos 0) = rw (add-one i) (sym (distance-at (s d .args .timestamps .now) i (omega (arith, s d .pre .1)))) in
+    c .bits-of .ensures ∙ ap (toBits binary64) ((rw (toZ-ofZ (second d), toZ-ofZ (first d), toZ-ofZ (distance d)) at (c .before .of-difference .ensures)) ∙ ap (ofInt binary64) same)
+
+pub interval-bits-spec : {M : Type 1} → statement M
+interval-bits-spec =
+    tie.close
+    (tie.spec add-of-difference mul-of-difference shared-slice-copy-out-of-difference mul-of-difference-2 shared-slice-copy-out-of-difference-2 sub-of-difference of-difference-requires bits-of-requires returns)

@@ -1,0 +1,8 @@
+-- The definitions that the contracts of `math`, and of the crates above, cite: a file for each subject.
+pub mod Values
+pub mod Sort
+pub mod Order
+pub mod Quantile
+pub mod Deviation
+pub mod Mode
+pub mod Regression

@@ -1,0 +1,10 @@
+pub mod InPlace
+pub mod Leading
+pub mod Signed
+pub mod Times
+pub mod Accepted
+pub mod Patterns
+pub mod Numbers
+pub mod All
+pub mod Resets
+pub mod Prepared

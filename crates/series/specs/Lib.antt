@@ -1,0 +1,5 @@
+pub mod Patterns
+pub mod Steps
+pub mod Refusals
+pub mod Rows
+pub mod Prepare

@@ -1,0 +1,66 @@
+// A series of readings: where it is refused, and the steps that prepare its values.
+
+mod refusal;
+mod rows;
+mod steps;
+
+pub use refusal::Checked;
+pub use refusal::Refusal;
+pub use rows::check_series;
+pub use rows::check_times;
+pub use steps::PreFunction;
+ghost use mathlib.Core.Path.{_≡_};
+ghost use lib.ListN.{length};
+ghost use Rattle.series.specs.Patterns.{floats, patterns};
+ghost use Rattle.series.specs.Prepare.{prepareAnswer, preparedSlice};
+ghost use Rattle.series.specs.Rows.{seriesChecked};
+ghost use Rattle.series.specs.Steps.{preparedOf};
+
+// The values as they are.
+fn copy(values: &[u64], prepared: &mut [u64])
+    requires { ⌜ length (now prepared) ≡ length (now values) ⌝ }
+    ensures { λ _. ⌜ now (prepared .exit) ≡ now (values .entry) ⌝ }
+{
+    let mut i = 0;
+    while i < values.len() {
+        prepared[i] = values[i];
+        i += 1;
+    }
+}
+
+// The values of an accepted series after the step, in a slice of their number.
+pub fn apply(timestamps: &[i64], values: &[u64], pre: PreFunction, prepared: &mut [u64])
+    requires { ⌜ (seriesChecked (now timestamps) (now values) ≡ Checked.Accepted) × (length (now prepared) ≡ length (now values)) ⌝ }
+    ensures { λ _. ⌜ now (prepared .exit) ≡ patterns (preparedOf pre (now (timestamps .entry)) (floats (now (values .entry)))) ⌝ }
+{
+    copy(values, prepared);
+    match pre {
+        PreFunction::None => {}
+        PreFunction::Resets => steps::remove_counter_resets(prepared),
+        PreFunction::Delta => steps::delta_values(prepared),
+        PreFunction::Deriv => steps::deriv_values(prepared, timestamps),
+        PreFunction::Intervals => steps::calc_sample_intervals_pre_fn(prepared, timestamps),
+    }
+}
+
+// Writes the values after the step to the prepared slice's first entries, or refuses by rows 1 to 5 and 13 and writes nothing.
+pub fn prepare(
+    timestamps: &[i64],
+    values: &[u64],
+    pre: PreFunction,
+    prepared: &mut [u64],
+) -> Checked
+    ensures answer { λ r. ⌜ r ≡ prepareAnswer (now (timestamps .entry)) (now (values .entry)) (length (now (prepared .entry))) ⌝ }
+    ensures slice { λ _. ⌜ now (prepared .exit) ≡ preparedSlice pre (now (timestamps .entry)) (now (values .entry)) (now (prepared .entry)) ⌝ }
+{
+    let checked = check_series(timestamps, values);
+    if let Checked::Refused(r) = checked {
+        return Checked::Refused(r);
+    }
+    let n = values.len();
+    if prepared.len() < n {
+        return Checked::Refused(Refusal::PreparedShort);
+    }
+    apply(timestamps, values, pre, &mut prepared[..n]);
+    Checked::Accepted
+}

@@ -1,0 +1,147 @@
+// The preparing steps, in place on the values' patterns, one pass each.
+
+ghost use mathlib.Core.Path.{_≡_};
+ghost use Rattle.series.specs.Patterns.{floats, patterns};
+ghost use lib.ListN.{length};
+ghost use Rattle.times.specs.Milli.{timeLimit, Within};
+ghost use Rattle.series.specs.Rows.{leading, inside};
+ghost use Rattle.series.specs.Steps.{grown, lifted, resets, deltas, sloped, derivs, wholeSeconds, intervals};
+
+// What is done to a series' values before they are rolled up.
+pub enum PreFunction {
+    None,
+    Resets,
+    Delta,
+    Deriv,
+    Intervals,
+}
+
+// The last slope, and the reading that the next one is taken from.
+pub struct Slope {
+    pub deriv: f64,
+    pub value: f64,
+    pub ts: i64,
+}
+
+// The correction c after the raw value v, where p is v's corrected predecessor.
+fn corrected(c: f64, p: f64, v: f64) -> f64
+    ensures { λ r. ⌜ r ≡ grown c p v ⌝ }
+{
+    let d = v - p;
+    if d < 0.0 {
+        // A fall by less than an eighth is likely a partial counter reset.
+        if -d * 8.0 < p {
+            return c + (p - v);
+        }
+        return c + p;
+    }
+    c
+}
+
+// v, or p where v is below it.
+fn raised(p: f64, v: f64) -> f64
+    ensures { λ r. ⌜ r ≡ lifted p v ⌝ }
+{
+    if v < p { p } else { v }
+}
+
+// Each value with the counter's resets added back.
+pub fn remove_counter_resets(values: &mut [u64])
+    ensures { λ _. ⌜ now (values .exit) ≡ patterns (resets (floats (now (values .entry)))) ⌝ }
+{
+    let mut correction = 0.0;
+    // Nothing lies below -infinity, so the first value is no reset.
+    let mut prev_value = -1.0 / 0.0;
+    let mut i = 0;
+    while i < values.len() {
+        let v = ieee::value_of(values[i]);
+        correction = corrected(correction, prev_value, v);
+        prev_value = raised(prev_value, v + correction);
+        values[i] = ieee::bits_of(prev_value);
+        i += 1;
+    }
+}
+
+// Each value's step to the next; the last step twice.
+pub fn delta_values(values: &mut [u64])
+    ensures { λ _. ⌜ now (values .exit) ≡ patterns (deltas (floats (now (values .entry)))) ⌝ }
+{
+    if values.len() == 0 {
+        return;
+    }
+    let mut prev_delta = 0.0;
+    let mut prev_value = ieee::value_of(values[0]);
+    let mut j = 0;
+    while j + 1 < values.len() {
+        let v = ieee::value_of(values[j + 1]);
+        prev_delta = v - prev_value;
+        values[j] = ieee::bits_of(prev_delta);
+        prev_value = v;
+        j += 1;
+    }
+    values[j] = ieee::bits_of(prev_delta);
+}
+
+impl Slope {
+    // The slope to the value v at ts. A time that is not later leaves the slope as it is.
+    fn next(self, v: f64, ts: i64) -> Slope
+        requires { ⌜ Within timeLimit (self .ts) × Within timeLimit ts ⌝ }
+        ensures { λ r. ⌜ r ≡ sloped self v ts ⌝ }
+    {
+        if self.ts < ts {
+            Slope {
+                deriv: (v - self.value) / ieee::seconds(ts - self.ts),
+                value: v,
+                ts,
+            }
+        } else {
+            self
+        }
+    }
+}
+
+// Each value's slope to the next, per second; the last slope twice.
+pub fn deriv_values(values: &mut [u64], timestamps: &[i64])
+    requires { ⌜ (length (now timestamps) ≡ length (now values)) × (leading inside (now timestamps) ≡ length (now timestamps)) ⌝ }
+    ensures { λ _. ⌜ now (values .exit) ≡ patterns (derivs (now (timestamps .entry)) (floats (now (values .entry)))) ⌝ }
+{
+    if values.len() == 0 {
+        return;
+    }
+    let mut slope = Slope {
+        deriv: 0.0,
+        value: ieee::value_of(values[0]),
+        ts: timestamps[0],
+    };
+    let mut j = 0;
+    while j + 1 < values.len() {
+        slope = slope.next(ieee::value_of(values[j + 1]), timestamps[j + 1]);
+        values[j] = ieee::bits_of(slope.deriv);
+        j += 1;
+    }
+    values[j] = ieee::bits_of(slope.deriv);
+}
+
+fn whole_seconds(t: i64) -> f64
+    ensures { λ r. ⌜ r ≡ wholeSeconds t ⌝ }
+{
+    ieee::of_difference(t / 1000)
+}
+
+// The interval of each reading from the one before, in whole seconds; the first interval twice, and NaN for a lone reading.
+pub fn calc_sample_intervals_pre_fn(values: &mut [u64], timestamps: &[i64])
+    requires { ⌜ length (now timestamps) ≡ length (now values) ⌝ }
+    ensures { λ _. ⌜ now (values .exit) ≡ patterns (intervals (now (timestamps .entry))) ⌝ }
+{
+    let mut prev = 0.0 / 0.0;
+    let mut i = 0;
+    while i < values.len() {
+        let secs = whole_seconds(timestamps[i]);
+        values[i] = ieee::bits_of(secs - prev);
+        prev = secs;
+        i += 1;
+    }
+    if 1 < values.len() {
+        values[0] = values[1];
+    }
+}

@@ -1,0 +1,25 @@
+/* The rollup core: figures from a series of readings. Build: rt staticlib harzoulin.
+ *
+ * A slice is a pointer and a length. Times are milliseconds. A value is the 64 bits of a binary64,
+ * so an array of doubles may be handed where a uint64_t * is asked; a NaN that is written is
+ * 0x7FF8000000000000. Slices handed to one call do not overlap.
+ *
+ * Each function returns 0 where the call was accepted, else the number of the refusal, and sets
+ * *index: the first offending reading for refusals 3 to 5, else 0. A refusal leaves every slice as
+ * it was. */
+#ifndef HARZOULIN_H
+#define HARZOULIN_H
+
+#include <stddef.h>
+#include <stdint.h>
+
+/* Writes the prepared values to the first entries of prepared, and nothing past them.
+ * pre: 0 none, 1 resets, 2 delta, 3 deriv, 4 intervals; any other number is refused 28.
+ * Refusals: 1 times and values differ in length; 2 over 16,777,216 readings; 3 a time outside
+ * +-2^50; 4 a time not above the one before; 5 a value NaN or infinite; 13 prepared is shorter than
+ * the series. */
+uint64_t harzoulin_prepare(const int64_t *timestamps, size_t timestamps_len, const uint64_t *values,
+                           size_t values_len, uint32_t pre, uint64_t *prepared, size_t prepared_len,
+                           uint64_t *index);
+
+#endif
