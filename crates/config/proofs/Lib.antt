@@ -2,5 +2,6 @@ pub mod After
 pub mod Bounded
 pub mod Distances
 pub mod Estimates
+pub mod Examples
 pub mod Limits
 pub mod Passed

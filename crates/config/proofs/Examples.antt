@@ -1,0 +1,67 @@
+-- Document 01's examples of this crate, computed.
+-- Assumes nothing.
+use mathlib.Core.Bool.{true, false}
+use mathlib.Core.List.{List, [], _∷_}
+use mathlib.Core.Path.{_≡_, refl}
+use Prim.Native.Nat.{ℕ, _^_}
+use lib.IntN.{ℤ, pos}
+use lib.Ieee.{add, sub, mul, round, lt, ofBits, ofInt, toUnsigned, toSigned, isNan}
+use Rattle.ieee.specs.Value.{floorOf}
+use Rattle.math.specs.Values.{kept}
+use Rattle.math.specs.Sort.{insertBy, sortBy}
+use Rattle.math.specs.Quantile.{between, atRank, rankOf, quantileSorted, quantileOf}
+use Rattle.series.specs.declared.refusal.Checked.the-variants.{Accepted, Refused}
+use Rattle.series.specs.declared.refusal.Refusal.the-variants.{OverPointLimit, WindowOutside}
+use Rattle.config.specs.Estimate.{distances, distancesFrom, estimateOf}
+use Rattle.config.specs.Reach.{reachOf, boundedReach, windowOf}
+use Rattle.config.specs.Rows.{outside, overPointLimit, row10, settledOutside, settledRow8}
+
+-- times 0, 1000, 3000: estimate 1600, reach 8000
+pub three-times : reachOf (estimateOf (pos 0 ∷ pos 1000 ∷ pos 3000 ∷ [])) ≡ 8000
+unfolding reachOf estimateOf distances distancesFrom quantileOf quantileSorted atRank rankOf between sortBy insertBy kept floorOf add sub mul round lt ofBits ofInt toUnsigned toSigned isNan
+three-times = refl
+
+-- rounded as floats are: 7, not 8
+pub eight-times : estimateOf (pos 0 ∷ pos 5 ∷ pos 10 ∷ pos 15 ∷ pos 20 ∷ pos 30 ∷ pos 40 ∷ pos 50 ∷ []) ≡ 7
+unfolding estimateOf distances distancesFrom quantileOf quantileSorted atRank rankOf between sortBy insertBy kept floorOf add sub mul round lt ofBits ofInt toUnsigned toSigned isNan
+eight-times = refl
+
+pub no-reading : reachOf (estimateOf []) ≡ 337500
+unfolding reachOf estimateOf
+no-reading = refl
+
+pub reach-of-2000 : reachOf 2000 ≡ 10000
+unfolding reachOf
+reach-of-2000 = refl
+
+pub reach-of-2001 : reachOf 2001 ≡ 6003
+unfolding reachOf
+reach-of-2001 = refl
+
+-- a staleness interval raises the reach past the lookback delta's cap
+pub past-the-cap : boundedReach 3000 5000 10000 ≡ 5000
+unfolding boundedReach
+past-the-cap = refl
+
+-- window 0: the step, raised to the reach, capped by the lookback delta
+pub window-of-0 : windowOf 0 1000 true true 3000 5000 ≡ 3000
+unfolding windowOf
+window-of-0 = refl
+
+-- start 0, end 10, step 1: limit 5 passes, 4 is refused
+pub limit-of-5 : row10 (pos 0) (pos 10) (pos 1) (pos 5) ≡ Accepted
+unfolding overPointLimit
+limit-of-5 = refl
+
+pub limit-of-4 : row10 (pos 0) (pos 10) (pos 1) (pos 4) ≡ Refused OverPointLimit
+unfolding overPointLimit
+limit-of-4 = refl
+
+-- settled: window 2^52 passes, 0 is refused
+pub longest-window : settledRow8 (pos (2 ^ 52)) (pos 1) ≡ Accepted
+unfolding outside settledOutside
+longest-window = refl
+
+pub no-window : settledRow8 (pos 0) (pos 1) ≡ Refused WindowOutside
+unfolding outside settledOutside
+no-window = refl
