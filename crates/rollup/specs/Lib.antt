@@ -1,0 +1,9 @@
+pub mod Window
+pub mod Types
+pub mod RollupFns
+pub mod Delta
+pub mod Deriv
+pub mod Candlestick
+pub mod Integrate
+pub mod HoltWinters
+pub mod Handler

@@ -1,0 +1,236 @@
+// The choice of a rollup, its evaluation, and how many samples it is taken to scan.
+
+use crate::candlestick::rollup_close;
+use crate::candlestick::rollup_high;
+use crate::candlestick::rollup_low;
+use crate::candlestick::rollup_open;
+use crate::delta::rollup_delta;
+use crate::delta::rollup_delta_prometheus;
+use crate::delta::rollup_idelta;
+use crate::deriv::rollup_deriv_fast;
+use crate::deriv::rollup_deriv_slow;
+use crate::deriv::rollup_ideriv;
+use crate::holt_winters::rollup_holt_winters;
+use crate::integrate::rollup_integrate;
+use crate::quantiles::rollup_quantile;
+use crate::rollup_fns::rollup_absent;
+use crate::rollup_fns::rollup_ascent_over_time;
+use crate::rollup_fns::rollup_avg;
+use crate::rollup_fns::rollup_changes;
+use crate::rollup_fns::rollup_changes_prometheus;
+use crate::rollup_fns::rollup_count;
+use crate::rollup_fns::rollup_default;
+use crate::rollup_fns::rollup_descent_over_time;
+use crate::rollup_fns::rollup_distinct;
+use crate::rollup_fns::rollup_first;
+use crate::rollup_fns::rollup_increase_pure;
+use crate::rollup_fns::rollup_increases;
+use crate::rollup_fns::rollup_lag;
+use crate::rollup_fns::rollup_lifetime;
+use crate::rollup_fns::rollup_mad;
+use crate::rollup_fns::rollup_max;
+use crate::rollup_fns::rollup_median;
+use crate::rollup_fns::rollup_min;
+use crate::rollup_fns::rollup_mode_over_time;
+use crate::rollup_fns::rollup_predict_linear;
+use crate::rollup_fns::rollup_present;
+use crate::rollup_fns::rollup_range;
+use crate::rollup_fns::rollup_rate_over_sum;
+use crate::rollup_fns::rollup_resets;
+use crate::rollup_fns::rollup_scrape_interval;
+use crate::rollup_fns::rollup_stddev;
+use crate::rollup_fns::rollup_stdvar;
+use crate::rollup_fns::rollup_sum2;
+use crate::rollup_fns::rollup_sum;
+use crate::rollup_fns::rollup_tfirst;
+use crate::rollup_fns::rollup_tlast;
+use crate::rollup_fns::rollup_tlast_change;
+use crate::rollup_fns::rollup_tmax;
+use crate::rollup_fns::rollup_tmin;
+use crate::rollup_fns::rollup_zscore_over_time;
+use crate::types::RollupFuncArg;
+
+ghost use mathlib.Core.Path.{_≡_};
+ghost use Prim.Native.Nat.{_*_, _≤_};
+ghost use lib.ListN.{length};
+ghost use Rattle.rollup.specs.Types.{Ranged};
+ghost use Rattle.rollup.specs.Window.{floats};
+ghost use Rattle.rollup.specs.Handler.{evalOf, figureOf, scannedPerCall};
+
+// The rollups of 01's list, in its order.
+pub enum RollupHandler {
+    Avg,
+    Min,
+    Max,
+    Mad,
+    Median,
+    Tmin,
+    Tmax,
+    Tfirst,
+    Tlast,
+    TlastChange,
+    Sum,
+    Sum2,
+    RateOverSum,
+    Range,
+    Absent,
+    Present,
+    Count,
+    Stddev,
+    Stdvar,
+    IncreasePure,
+    Lifetime,
+    Lag,
+    ScrapeInterval,
+    Changes,
+    ChangesPrometheus,
+    Increases,
+    Resets,
+    ModeOverTime,
+    AscentOverTime,
+    DescentOverTime,
+    ZscoreOverTime,
+    First,
+    Default,
+    Distinct,
+    DerivSlow,
+    DerivFast,
+    Ideriv,
+    Delta,
+    DeltaPrometheus,
+    Idelta,
+    Open,
+    Close,
+    High,
+    Low,
+    Integrate,
+    Quantile(f64),
+    PredictLinear(f64),
+    HoltWinters(f64, f64),
+}
+
+// The chosen rollup's figure for a window.
+fn figure(handler: RollupHandler, rfa: RollupFuncArg, values: &[u64], timestamps: &[i64], work: &mut [f64]) -> f64
+    requires ranged { ⌜ Ranged rfa (now timestamps) ⌝ }
+    requires lengths { ⌜ length (now timestamps) ≡ length (now values) ⌝ }
+    requires room { ⌜ 2 * length (now values) ≤ length (now work) ⌝ }
+    ensures { λ r. ⌜ r ≡ figureOf handler rfa (floats (now (values .entry))) (now (timestamps .entry)) ⌝ }
+{
+    match handler {
+        RollupHandler::Avg => rollup_avg(values),
+        RollupHandler::Min => rollup_min(values),
+        RollupHandler::Max => rollup_max(values),
+        RollupHandler::Mad => rollup_mad(values, work),
+        RollupHandler::Median => rollup_median(values, work),
+        RollupHandler::Tmin => rollup_tmin(values, timestamps),
+        RollupHandler::Tmax => rollup_tmax(values, timestamps),
+        RollupHandler::Tfirst => rollup_tfirst(timestamps),
+        RollupHandler::Tlast => rollup_tlast(timestamps),
+        RollupHandler::TlastChange => rollup_tlast_change(rfa, values, timestamps),
+        RollupHandler::Sum => rollup_sum(values),
+        RollupHandler::Sum2 => rollup_sum2(values),
+        RollupHandler::RateOverSum => rollup_rate_over_sum(rfa, values),
+        RollupHandler::Range => rollup_range(values),
+        RollupHandler::Absent => rollup_absent(values),
+        RollupHandler::Present => rollup_present(values),
+        RollupHandler::Count => rollup_count(values),
+        RollupHandler::Stddev => rollup_stddev(values),
+        RollupHandler::Stdvar => rollup_stdvar(values),
+        RollupHandler::IncreasePure => rollup_increase_pure(rfa, values),
+        RollupHandler::Lifetime => rollup_lifetime(rfa, timestamps),
+        RollupHandler::Lag => rollup_lag(rfa, timestamps),
+        RollupHandler::ScrapeInterval => rollup_scrape_interval(rfa, timestamps),
+        RollupHandler::Changes => rollup_changes(rfa, values),
+        RollupHandler::ChangesPrometheus => rollup_changes_prometheus(values),
+        RollupHandler::Increases => rollup_increases(rfa, values),
+        RollupHandler::Resets => rollup_resets(rfa, values),
+        RollupHandler::ModeOverTime => rollup_mode_over_time(rfa, values, work),
+        RollupHandler::AscentOverTime => rollup_ascent_over_time(rfa, values),
+        RollupHandler::DescentOverTime => rollup_descent_over_time(rfa, values),
+        RollupHandler::ZscoreOverTime => rollup_zscore_over_time(rfa, values, timestamps),
+        RollupHandler::First => rollup_first(values),
+        RollupHandler::Default => rollup_default(values),
+        RollupHandler::Distinct => rollup_distinct(values, work),
+        RollupHandler::DerivSlow => rollup_deriv_slow(rfa, values, timestamps),
+        RollupHandler::DerivFast => rollup_deriv_fast(rfa, values, timestamps),
+        RollupHandler::Ideriv => rollup_ideriv(rfa, values, timestamps),
+        RollupHandler::Delta => rollup_delta(rfa, values),
+        RollupHandler::DeltaPrometheus => rollup_delta_prometheus(values),
+        RollupHandler::Idelta => rollup_idelta(rfa, values),
+        RollupHandler::Open => rollup_open(rfa, values, timestamps),
+        RollupHandler::Close => rollup_close(rfa, values, timestamps),
+        RollupHandler::High => rollup_high(rfa, values, timestamps),
+        RollupHandler::Low => rollup_low(rfa, values, timestamps),
+        RollupHandler::Integrate => rollup_integrate(rfa, values, timestamps),
+        RollupHandler::Quantile(phi) => rollup_quantile(values, work, phi),
+        RollupHandler::PredictLinear(secs) => rollup_predict_linear(rfa, values, timestamps, secs),
+        RollupHandler::HoltWinters(sf, tf) => rollup_holt_winters(rfa, values, sf, tf),
+    }
+}
+
+// The bits of the chosen rollup's figure for a window, NaN as 0x7FF8000000000000. What it leaves in the
+// work slice is open.
+pub fn eval(handler: RollupHandler, rfa: RollupFuncArg, values: &[u64], timestamps: &[i64], work: &mut [f64]) -> u64
+    requires ranged { ⌜ Ranged rfa (now timestamps) ⌝ }
+    requires lengths { ⌜ length (now timestamps) ≡ length (now values) ⌝ }
+    requires room { ⌜ 2 * length (now values) ≤ length (now work) ⌝ }
+    ensures { λ r. ⌜ r ≡ evalOf handler rfa (now (values .entry)) (now (timestamps .entry)) ⌝ }
+{
+    ieee::bits_of(figure(handler, rfa, values, timestamps, work))
+}
+
+// How many samples a call of the rollup is taken to scan; 0 stands for all of its window.
+pub fn rollup_samples_scanned_per_call(handler: RollupHandler) -> usize
+    ensures { λ r. ⌜ r ≡ scannedPerCall handler ⌝ }
+{
+    match handler {
+        RollupHandler::Avg => 0,
+        RollupHandler::Min => 0,
+        RollupHandler::Max => 0,
+        RollupHandler::Mad => 0,
+        RollupHandler::Median => 0,
+        RollupHandler::Tmin => 0,
+        RollupHandler::Tmax => 0,
+        RollupHandler::Tfirst => 1,
+        RollupHandler::Tlast => 1,
+        RollupHandler::TlastChange => 0,
+        RollupHandler::Sum => 0,
+        RollupHandler::Sum2 => 0,
+        RollupHandler::RateOverSum => 0,
+        RollupHandler::Range => 0,
+        RollupHandler::Absent => 1,
+        RollupHandler::Present => 1,
+        RollupHandler::Count => 1,
+        RollupHandler::Stddev => 0,
+        RollupHandler::Stdvar => 0,
+        RollupHandler::IncreasePure => 2,
+        RollupHandler::Lifetime => 2,
+        RollupHandler::Lag => 1,
+        RollupHandler::ScrapeInterval => 2,
+        RollupHandler::Changes => 0,
+        RollupHandler::ChangesPrometheus => 0,
+        RollupHandler::Increases => 0,
+        RollupHandler::Resets => 0,
+        RollupHandler::ModeOverTime => 0,
+        RollupHandler::AscentOverTime => 0,
+        RollupHandler::DescentOverTime => 0,
+        RollupHandler::ZscoreOverTime => 0,
+        RollupHandler::First => 1,
+        RollupHandler::Default => 1,
+        RollupHandler::Distinct => 0,
+        RollupHandler::DerivSlow => 0,
+        RollupHandler::DerivFast => 2,
+        RollupHandler::Ideriv => 2,
+        RollupHandler::Delta => 2,
+        RollupHandler::DeltaPrometheus => 2,
+        RollupHandler::Idelta => 2,
+        RollupHandler::Open => 0,
+        RollupHandler::Close => 0,
+        RollupHandler::High => 0,
+        RollupHandler::Low => 0,
+        RollupHandler::Integrate => 0,
+        RollupHandler::Quantile(_) => 0,
+        RollupHandler::PredictLinear(_) => 0,
+        RollupHandler::HoltWinters(_, _) => 0,
+    }
+}
