@@ -10,6 +10,7 @@
 #ifndef HARZOULIN_H
 #define HARZOULIN_H
 
+#include <stdbool.h>
 #include <stddef.h>
 #include <stdint.h>
 
@@ -21,5 +22,19 @@
 uint64_t harzoulin_prepare(const int64_t *timestamps, size_t timestamps_len, const uint64_t *values,
                            size_t values_len, uint32_t pre, uint64_t *prepared, size_t prepared_len,
                            uint64_t *index);
+
+/* Settles a window, a reach and the number of output times, which are set on acceptance only.
+ * A window of 0 stands for the step; a lookback delta, a staleness interval or a point limit of 0
+ * for none. The output times are start, start + step, and so on, not past end.
+ * Refusals: 2 to 4 as above; 6 step outside 1..2^50; 7 start or end outside +-2^50, or start > end;
+ * 8 window outside 0..2^50; 9 lookback delta, staleness interval or point limit outside 0..2^50, or
+ * samples_scanned_per_call over 65,535; 10 a point limit above 0 and below
+ * (end - start) / (step + 1), rounded down; 11 over 16,777,216 output times. */
+uint64_t harzoulin_settle(const int64_t *timestamps, size_t timestamps_len, int64_t start,
+                          int64_t end, int64_t step, int64_t window, bool may_adjust_window,
+                          bool is_default_rollup, int64_t lookback_delta,
+                          int64_t min_staleness_interval, int64_t max_points_per_series,
+                          uint64_t samples_scanned_per_call, int64_t *settled_window,
+                          int64_t *reach, uint64_t *points, uint64_t *index);
 
 #endif

@@ -17,7 +17,7 @@ unfolding add sub mul
 between w lower upper = add binary64 (mul binary64 lower (sub binary64 (ofBits binary64 0x3FF0000000000000) w)) (mul binary64 upper w)
 
 -- The values at the whole part of the rank and at the next place, weighted by the rank's fraction. The whole part of a rank among up to 2 ^ 53 values
--- is an index of them (`index-within` in proofs/Rank.antt), so that the first bound by the last index is never met; a longer slice is not turned away.
+-- is an index of them (`index-within` in proofs/Index.antt), so that the first bound by the last index is never met; a longer slice is not turned away.
 unfoldable pub atRank : Float → List Float → Float
 unfolding between sub floorOf toUnsigned
 atRank rank xs =

@@ -9,7 +9,7 @@ use lib.Ieee.{Float, nan, inf, fin, binary64, isNan, toBits}
 use Rattle.rollup.specs.declared.types.RollupFuncArg.{RollupFuncArg}
 use Rattle.rollup.specs.declared.handler.RollupHandler.{RollupHandler}
 use Rattle.rollup.specs.Window.{floats}
-use Rattle.rollup.specs.Handler.{figureOf, evalOf}
+use Rattle.rollup.specs.Eval.{figureOf, evalOf}
 
 -- equal records and equal windows give answers of the same bits
 pub equal-answers : (h : RollupHandler) (r₁ r₂ : RollupFuncArg) (v₁ v₂ : List ℕ) (t₁ t₂ : List ℤ) → r₁ ≡ r₂ → v₁ ≡ v₂ → t₁ ≡ t₂ → evalOf h r₁ v₁ t₁ ≡ evalOf h r₂ v₂ t₂
@@ -24,4 +24,5 @@ nan-bits (fin s m e) h = cc
 
 -- an answer that is NaN has the bits 0x7FF8000000000000
 pub nan-answer : (h : RollupHandler) (r : RollupFuncArg) (values : List ℕ) (ts : List ℤ) → isNan (figureOf h r (floats values) ts) ≡ true → evalOf h r values ts ≡ 0x7FF8000000000000
+unfolding evalOf
 nan-answer h r values ts e = nan-bits (figureOf h r (floats values) ts) e

@@ -69,9 +69,10 @@ last-in ts h = rw (last-at (pos 0) ts) (h (length ts - 1))
 
 -- what `linear_regression` asks of a window: its times may be subtracted from the output time
 pub fits-after : (r : RollupFuncArg) (ts : List ℤ) {n : ℕ} → (Ranged r ts) × (length ts ≡ n) → (length ts ≡ n) × ((i : ℕ) → i < length ts → SFits w64 (getD ts i (pos 0) -ℤ toZ w64 (ofZ w64 (r .«curr_timestamp»))))
-fits-after r ts h =
-    (h .1,
-    λ i _. rw (back (r .«curr_timestamp») (h .0 .curr)) (difference-fits (getD ts i (pos 0)) (r .«curr_timestamp») (omega (arith, h .0 .times i, h .0 .curr))))
+fits-after r ts h = (
+  h .1,
+  λ i _. rw (back (r .«curr_timestamp») (h .0 .curr)) (difference-fits (getD ts i (pos 0)) (r .«curr_timestamp») (omega (arith, h .0 .times i, h .0 .curr))),
+)
 
 module _ {r : RollupFuncArg} {ts : List ℤ} (ranged : Ranged r ts) where
   pub first-ranged : InRange (firstOr (pos 0) ts)

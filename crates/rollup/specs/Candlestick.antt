@@ -18,6 +18,7 @@ candlestick t ts xs = take (upToLast (λ s. ltZ s t) ts - 1) xs
 unfoldable pub firstCandle : RollupFuncArg → Float
 firstCandle r = cond (ltZ (r .«prev_timestamp» +ℤ r .window) (r .«curr_timestamp»)) nan (r .«prev_value»)
 
+-- the predecessor, or else the first of those values
 unfoldable pub openOf : RollupFuncArg → List Float → List ℤ → Float
 openOf r xs ts = cond (isNan (firstCandle r)) (firstOf (candlestick (r .«curr_timestamp») ts xs)) (firstCandle r)
 
@@ -29,8 +30,10 @@ closeOf r xs ts = lastOr (firstCandle r) (candlestick (r .«curr_timestamp») ts
 unfoldable pub extremeCandle : Bool → RollupFuncArg → List Float → List ℤ → Float
 extremeCandle down r xs ts = seeded (foldFrom (further down)) (firstCandle r) (candlestick (r .«curr_timestamp») ts xs)
 
+-- the furthest up
 abbrev pub highOf : RollupFuncArg → List Float → List ℤ → Float
 highOf r xs ts = extremeCandle false r xs ts
 
+-- the furthest down
 abbrev pub lowOf : RollupFuncArg → List Float → List ℤ → Float
 lowOf r xs ts = extremeCandle true r xs ts

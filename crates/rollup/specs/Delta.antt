@@ -24,6 +24,7 @@ firstStep next xs =
 unfoldable pub startsLow : Float → List Float → Bool
 startsLow next xs = lt (absOf (firstOf xs)) (mul binary64 (ofBits binary64 0x4024000000000000) (add binary64 (absOf (firstStep next xs)) oneF))
 
+-- from the predecessor; without one, from the real previous value, or else from where the counter is taken to start
 unfoldable pub deltaOf : RollupFuncArg → List Float → Float
 deltaOf r xs =
     cond (isNan (r .«prev_value»))
@@ -33,6 +34,7 @@ deltaOf r xs =
     (sub binary64 (lastOf xs) (r .«real_prev_value»))))
     (deltaFrom (r .«prev_value») xs)
 
+-- the last value less the first
 unfoldable pub deltaPrometheusOf : List Float → Float
 deltaPrometheusOf xs = cond (ltb (length xs) 2) nan (sub binary64 (lastOf xs) (firstOf xs))
 

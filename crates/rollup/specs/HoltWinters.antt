@@ -14,6 +14,7 @@ outOfRange f = le f zeroF || le oneF f
 abbrev pub level : Float → Float × Float → Float → Float
 level sf s v = add binary64 (mul binary64 sf v) (mul binary64 (sub binary64 oneF sf) (add binary64 (s .0) (s .1)))
 
+-- the level and the trend after v
 abbrev pub smooth : Float → Float → Float × Float → Float → Float × Float
 smooth sf tf s v =
     (level sf s v, add binary64 (mul binary64 tf (sub binary64 (level sf s v) (s .0))) (mul binary64 (sub binary64 oneF tf) (s .1)))

@@ -19,9 +19,11 @@ pub record Area : Type 0 where
 unfoldable pub areaAt : Area → ℤ → Float
 areaAt a t = add binary64 (a .sum) (mul binary64 (a .value) (secondsF (t -ℤ a .time)))
 
+-- the area after one more reading
 abbrev pub extend : Area → Float × ℤ → Area
 extend a x = record { value = x .0; time = x .1; sum = areaAt a (x .1) }
 
+-- from the value v at the time t over the readings up to the time end
 unfoldable pub areaFrom : Float → ℤ → List (Float × ℤ) → ℤ → Float
 areaFrom v t rs end = areaAt (foldFrom extend (record { value = v; time = t; sum = zeroF }) rs) end
 

@@ -6,4 +6,4 @@ pub mod Deriv
 pub mod Candlestick
 pub mod Integrate
 pub mod HoltWinters
-pub mod Handler
+pub mod Eval

@@ -21,9 +21,11 @@ use Rattle.rollup.specs.Window.{readings, isEmpty, firstOr, lastOr, firs
 unfoldable pub totalOf : List Float → Float
 totalOf xs = foldFrom (add binary64) zeroF xs
 
+-- the sum, NaN for an empty window
 unfoldable pub sumOf : List Float → Float
 sumOf xs = cond (isEmpty xs) nan (totalOf xs)
 
+-- the sum by the count
 unfoldable pub avgOf : List Float → Float
 avgOf xs = cond (isEmpty xs) nan (div binary64 (totalOf xs) (countF (length xs)))
 
@@ -31,9 +33,11 @@ avgOf xs = cond (isEmpty xs) nan (div binary64 (totalOf xs) (countF (length xs))
 unfoldable pub rateOverSumOf : RollupFuncArg → List Float → Float
 rateOverSumOf r xs = cond (isEmpty xs) nan (div binary64 (totalOf xs) (secondsF (r .window)))
 
+-- s and the square of v
 abbrev pub addSquare : Float → Float → Float
 addSquare s v = add binary64 s (mul binary64 v v)
 
+-- the sum of the squares
 unfoldable pub sum2Of : List Float → Float
 sum2Of xs = cond (isEmpty xs) nan (foldFrom addSquare zeroF xs)
 
@@ -45,6 +49,7 @@ minOf xs = cond (isEmpty xs) nan (foldFrom (further true) (firstOf xs) xs)
 abbrev pub noLesser : Float → Float → Float
 noLesser m v = cond (lt v m) m v
 
+-- from the first value on
 unfoldable pub maxOf : List Float → Float
 maxOf xs = cond (isEmpty xs) nan (foldFrom noLesser (firstOf xs) (drop 1 xs))
 
@@ -64,15 +69,19 @@ latest down s x = cond (atLeast down (s .0) (x .0)) x s
 unfoldable pub extremeTime : Bool → List Float → List ℤ → Float
 extremeTime down xs ts = cond (isEmpty xs) nan (secondsF (foldFrom (latest down) (firstOf xs, firstOr (pos 0) ts) (readings xs ts) .1))
 
+-- of the minimum
 abbrev pub tminOf : List Float → List ℤ → Float
 tminOf xs ts = extremeTime true xs ts
 
+-- of the maximum
 abbrev pub tmaxOf : List Float → List ℤ → Float
 tmaxOf xs ts = extremeTime false xs ts
 
+-- the first time, in seconds
 unfoldable pub tfirstOf : List ℤ → Float
 tfirstOf ts = cond (isEmpty ts) nan (secondsF (firstOr (pos 0) ts))
 
+-- the last time, in seconds
 unfoldable pub tlastOf : List ℤ → Float
 tlastOf ts = cond (isEmpty ts) nan (secondsF (lastOr (pos 0) ts))
 
@@ -85,23 +94,29 @@ unfoldable pub tlastChangeOf : Float → List Float → List ℤ → Float
 tlastChangeOf p xs ts =
     cond (isEmpty xs) nan (cond (eqb (changedUpTo xs) 0 && eq p (lastOf xs)) nan (secondsF (getD ts (changedUpTo xs) (pos 0))))
 
+-- 1.0 for an empty window
 unfoldable pub absentOf : List Float → Float
 absentOf xs = cond (isEmpty xs) oneF nan
 
+-- 1.0 for a window that is not empty
 unfoldable pub presentOf : List Float → Float
 presentOf xs = cond (isEmpty xs) nan oneF
 
+-- how many values there are
 unfoldable pub countOf : List Float → Float
 countOf xs = cond (isEmpty xs) nan (countF (length xs))
 
+-- the last value less the predecessor, which is 0.0 where there is none
 unfoldable pub increasePureOf : Float → List Float → Float
 increasePureOf p xs = cond (isEmpty xs) (cond (isNan p) nan zeroF) (sub binary64 (lastOf xs) (cond (isNan p) zeroF p))
 
+-- the seconds from the predecessor, or else from the first reading, to the last
 unfoldable pub lifetimeOf : RollupFuncArg → List ℤ → Float
 lifetimeOf r ts =
     cond (isNan (r .«prev_value»)) (cond (ltb (length ts) 2) nan (secondsF (lastOr (pos 0) ts -ℤ firstOr (pos 0) ts)))
     (cond (isEmpty ts) nan (secondsF (lastOr (pos 0) ts -ℤ r .«prev_timestamp»)))
 
+-- the seconds from the last reading, or else from the predecessor, to the output time
 unfoldable pub lagOf : RollupFuncArg → List ℤ → Float
 lagOf r ts =
     cond (isEmpty ts) (cond (isNan (r .«prev_value»)) nan (secondsF (r .«curr_timestamp» -ℤ r .«prev_timestamp»)))
@@ -119,9 +134,11 @@ belowTolerance v p = lt (absOf (sub binary64 v p)) (mul binary64 (ofBits binary6
 abbrev pub isChange : Float → Float → Bool
 isChange p v = ne v p && not (belowTolerance v p)
 
+-- the compared value and the count, after one more value
 abbrev pub change : Float × ℕ → Float → Float × ℕ
 change s v = cond (isChange (s .0) v) (v, s .1 + 1) s
 
+-- the changes from p on
 unfoldable pub changesFrom : Float → List Float → ℕ
 changesFrom p xs = foldFrom change (p, 0) xs .1
 
@@ -137,15 +154,19 @@ changesOf p xs = cond (isNan p) (cond (isEmpty xs) nan (countF (changesFrom (fir
 abbrev pub tally : Bool → Float × ℕ → Float → Float × ℕ
 tally down s v = cond (beyond down (s .0) v) (cond (belowTolerance v (s .0)) s (v, s .1 + 1)) (v, s .1)
 
+-- the steps from p on
 unfoldable pub stepsFrom : Bool → Float → List Float → Float
 stepsFrom down p xs = countF (foldFrom (tally down) (p, 0) xs .1)
 
+-- from the predecessor, or else from the first value
 unfoldable pub stepsOf : Bool → Float → List Float → Float
 stepsOf down p xs = seeded (stepsFrom down) p xs
 
+-- steps up
 abbrev pub increasesOf : Float → List Float → Float
 increasesOf p xs = stepsOf false p xs
 
+-- steps down
 abbrev pub resetsOf : Float → List Float → Float
 resetsOf p xs = stepsOf true p xs
 
@@ -157,15 +178,19 @@ gap down p v = cond down (sub binary64 p v) (sub binary64 v p)
 abbrev pub slide : Bool → Float × Float → Float → Float × Float
 slide down s v = (v, cond (lt zeroF (gap down (s .0) v)) (add binary64 (s .1) (gap down (s .0) v)) (s .1))
 
+-- the sum from p on
 unfoldable pub slideFrom : Bool → Float → List Float → Float
 slideFrom down p xs = foldFrom (slide down) (p, zeroF) xs .1
 
+-- from the predecessor, or else from the first value
 unfoldable pub slideOf : Bool → Float → List Float → Float
 slideOf down p xs = seeded (slideFrom down) p xs
 
+-- steps up
 abbrev pub ascentOverTimeOf : Float → List Float → Float
 ascentOverTimeOf p xs = slideOf false p xs
 
+-- steps down
 abbrev pub descentOverTimeOf : Float → List Float → Float
 descentOverTimeOf p xs = slideOf true p xs
 
@@ -173,6 +198,7 @@ descentOverTimeOf p xs = slideOf true p xs
 unfoldable pub zscoreFrom : Float → Float → Float
 zscoreFrom d dev = cond (eq d zeroF) zeroF (div binary64 d dev)
 
+-- the score of the last value
 unfoldable pub zscoreOverTimeOf : RollupFuncArg → List Float → List ℤ → Float
 zscoreOverTimeOf r xs ts =
     cond (isNan (scrapeIntervalOf r ts) || isNan (lagOf r ts) || lt (scrapeIntervalOf r ts) (lagOf r ts)) nan
@@ -182,6 +208,7 @@ zscoreOverTimeOf r xs ts =
 abbrev pub dedup : Float × ℕ → Float → Float × ℕ
 dedup s v = cond (eq v (s .0)) s (v, s .1 + 1)
 
+-- how many values are kept of sorted ones
 unfoldable pub distinctFrom : List Float → ℕ
 distinctFrom xs = foldFrom dedup (firstOf xs, 1) (drop 1 xs) .1
 
@@ -193,5 +220,6 @@ distinctOf xs = cond (isEmpty xs) nan (countF (distinctFrom (sorted Total xs)))
 unfoldable pub predictFrom : Line → Float → Float
 predictFrom line secs = cond (isNan (line .v)) nan (add binary64 (line .v) (mul binary64 (line .k) secs))
 
+-- the line is that of the window
 unfoldable pub predictLinearOf : RollupFuncArg → List Float → List ℤ → Float → Float
 predictLinearOf r xs ts secs = predictFrom (regressionOf xs ts (r .«curr_timestamp»)) secs

@@ -19,6 +19,7 @@ readings (x ∷ xs) (t ∷ ts) = (x, t) ∷ readings xs ts
 readings (x ∷ xs) [] = []
 readings [] ts = []
 
+-- whether there is none
 unfoldable pub isEmpty : {A : Type 0} → List A → Bool
 isEmpty [] = true
 isEmpty (x ∷ xs) = false
@@ -37,6 +38,7 @@ lastOr d (x ∷ xs) = lastOr x xs
 abbrev pub firstOf : List Float → Float
 firstOf xs = firstOr nan xs
 
+-- the last value
 abbrev pub lastOf : List Float → Float
 lastOf xs = lastOr nan xs
 
@@ -51,6 +53,7 @@ counted true n = suc n
 counted false zero = zero
 counted false (suc n) = suc (suc n)
 
+-- by going through the items
 unfoldable pub upToLast : {A : Type 0} → (A → Bool) → List A → ℕ
 upToLast passes [] = 0
 upToLast passes (x ∷ xs) = counted (passes x) (upToLast passes xs)
@@ -67,9 +70,11 @@ beyond down m v = cond down (lt v m) (lt m v)
 abbrev pub further : Bool → Float → Float → Float
 further down m v = cond (beyond down m v) v m
 
+-- +0.0
 abbrev pub zeroF : Float
 zeroF = ofBits binary64 0
 
+-- 1.0
 abbrev pub oneF : Float
 oneF = ofBits binary64 0x3FF0000000000000
 
@@ -77,5 +82,6 @@ oneF = ofBits binary64 0x3FF0000000000000
 abbrev pub countF : ℕ → Float
 countF n = ofInt binary64 (pos n)
 
+-- milliseconds as seconds
 abbrev pub secondsF : ℤ → Float
 secondsF ms = div binary64 (ofInt binary64 ms) (ofBits binary64 0x408F400000000000)

@@ -40,8 +40,8 @@ use crate::rollup_fns::rollup_resets;
 use crate::rollup_fns::rollup_scrape_interval;
 use crate::rollup_fns::rollup_stddev;
 use crate::rollup_fns::rollup_stdvar;
-use crate::rollup_fns::rollup_sum2;
 use crate::rollup_fns::rollup_sum;
+use crate::rollup_fns::rollup_sum2;
 use crate::rollup_fns::rollup_tfirst;
 use crate::rollup_fns::rollup_tlast;
 use crate::rollup_fns::rollup_tlast_change;
@@ -49,13 +49,10 @@ use crate::rollup_fns::rollup_tmax;
 use crate::rollup_fns::rollup_tmin;
 use crate::rollup_fns::rollup_zscore_over_time;
 use crate::types::RollupFuncArg;
-
 ghost use mathlib.Core.Path.{_≡_};
-ghost use Prim.Native.Nat.{_*_, _≤_};
 ghost use lib.ListN.{length};
-ghost use Rattle.rollup.specs.Types.{Ranged};
 ghost use Rattle.rollup.specs.Window.{floats};
-ghost use Rattle.rollup.specs.Handler.{evalOf, figureOf, scannedPerCall};
+ghost use Rattle.rollup.specs.Eval.{Ready, evalOf, figureOf, scannedPerCall};
 
 // The rollups of 01's list, in its order.
 pub enum RollupHandler {
@@ -110,10 +107,14 @@ pub enum RollupHandler {
 }
 
 // The chosen rollup's figure for a window.
-fn figure(handler: RollupHandler, rfa: RollupFuncArg, values: &[u64], timestamps: &[i64], work: &mut [f64]) -> f64
-    requires ranged { ⌜ Ranged rfa (now timestamps) ⌝ }
-    requires lengths { ⌜ length (now timestamps) ≡ length (now values) ⌝ }
-    requires room { ⌜ 2 * length (now values) ≤ length (now work) ⌝ }
+fn figure(
+    handler: RollupHandler,
+    rfa: RollupFuncArg,
+    values: &[u64],
+    timestamps: &[i64],
+    work: &mut [f64],
+) -> f64
+    requires { ⌜ Ready rfa (now values) (now timestamps) (length (now work)) ⌝ }
     ensures { λ r. ⌜ r ≡ figureOf handler rfa (floats (now (values .entry))) (now (timestamps .entry)) ⌝ }
 {
     match handler {
@@ -170,10 +171,14 @@ fn figure(handler: RollupHandler, rfa: RollupFuncArg, values: &[u64], timestamps
 
 // The bits of the chosen rollup's figure for a window, NaN as 0x7FF8000000000000. What it leaves in the
 // work slice is open.
-pub fn eval(handler: RollupHandler, rfa: RollupFuncArg, values: &[u64], timestamps: &[i64], work: &mut [f64]) -> u64
-    requires ranged { ⌜ Ranged rfa (now timestamps) ⌝ }
-    requires lengths { ⌜ length (now timestamps) ≡ length (now values) ⌝ }
-    requires room { ⌜ 2 * length (now values) ≤ length (now work) ⌝ }
+pub fn eval(
+    handler: RollupHandler,
+    rfa: RollupFuncArg,
+    values: &[u64],
+    timestamps: &[i64],
+    work: &mut [f64],
+) -> u64
+    requires { ⌜ Ready rfa (now values) (now timestamps) (length (now work)) ⌝ }
     ensures { λ r. ⌜ r ≡ evalOf handler rfa (now (values .entry)) (now (timestamps .entry)) ⌝ }
 {
     ieee::bits_of(figure(handler, rfa, values, timestamps, work))

@@ -1,6 +1,5 @@
 // The rollups of rollup_fns.rs. Each answers NaN for a window that does not settle it.
 
-use math::regression::Line;
 use crate::types::RollupFuncArg;
 use crate::types::first;
 use crate::types::first_time;
@@ -12,6 +11,7 @@ use crate::types::rest;
 use crate::types::seconds_between;
 use crate::types::time_at;
 use crate::types::value_at;
+use math::regression::Line;
 ghost use mathlib.Core.Path.{_≡_};
 ghost use Prim.Native.Nat.{_-_, _*_, _≤_, _<_};
 ghost use lib.ListN.{length};
@@ -615,10 +615,18 @@ fn predict(line: Line, secs: f64) -> f64
     line.v + line.k * secs
 }
 
-pub fn rollup_predict_linear(rfa: RollupFuncArg, values: &[u64], timestamps: &[i64], secs: f64) -> f64
+pub fn rollup_predict_linear(
+    rfa: RollupFuncArg,
+    values: &[u64],
+    timestamps: &[i64],
+    secs: f64,
+) -> f64
     requires ranged { ⌜ Ranged rfa (now timestamps) ⌝ }
     requires lengths { ⌜ length (now timestamps) ≡ length (now values) ⌝ }
     ensures { λ r. ⌜ r ≡ predictLinearOf rfa (floats (now (values .entry))) (now (timestamps .entry)) secs ⌝ }
 {
-    predict(math::regression::linear_regression(values, timestamps, rfa.curr_timestamp), secs)
+    predict(
+        math::regression::linear_regression(values, timestamps, rfa.curr_timestamp),
+        secs,
+    )
 }

@@ -2,7 +2,8 @@
 -- Assumes nothing.
 use mathlib.Core.List.{List, [], _∷_}
 use mathlib.Core.Bool.{Bool, true, false}
-use Prim.Native.Nat.{ℕ, suc, _+_, _*_, _%_, _^_}
+use mathlib.Core.Path.{_≡_}
+use Prim.Native.Nat.{ℕ, suc, _+_, _*_, _%_, _^_, _≤_}
 use lib.Dec.{leb, eqb}
 use lib.ListN.{length, take, drop}
 
@@ -30,3 +31,16 @@ hexOf bs = hexFrom 0 bs
 -- the word whose digits begin at byte `at`, and 0 where it is not whole
 abbrev pub wordAt : List ℕ → ℕ → ℕ
 wordAt s at = pick (leb (at + 16) (length s)) (hexOf (take 16 (drop at s))) 0
+
+abbrev pub both : Bool → Bool → Bool
+both true b = b
+both false b = false
+
+-- whether the words from byte `at` on are these numbers
+unfoldable pub agrees : List ℕ → ℕ → List ℕ → Bool
+agrees s at [] = true
+agrees s at (x ∷ xs) = both (eqb x (wordAt s at)) (agrees s (at + 17) xs)
+
+-- the first n entries are there to be lent; the second part follows from the first, and is stated for the proofs that Rattle makes
+abbrev pub Front : {A : Type 0} → ℕ → List A → Type 0
+Front n xs = (n ≤ length xs) × (n ≡ length (take n xs))

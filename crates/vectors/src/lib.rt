@@ -3,11 +3,12 @@
 // 64 bits of a number or of a binary64, so word k stands 17 × k bytes after the first line.
 
 ghost use mathlib.Core.Path.{_≡_};
-ghost use Prim.Native.Nat.{_≤_};
-ghost use lib.ListN.{length};
+ghost use Prim.Native.Nat.{ℕ, _+_, _*_, _^_, _≤_, _<_};
+ghost use lib.IntN.{pos};
+ghost use lib.ListN.{getD, length};
 ghost use mir.Syntax.{w64};
 ghost use mir.Val.{toZ};
-ghost use Rattle.vectors.specs.Words.{bodyOf, digitOf, hexOf, wordAt};
+ghost use Rattle.vectors.specs.Words.{Front, agrees, bodyOf, digitOf, hexOf, wordAt};
 
 // The bytes of a word and of what follows it.
 pub const STEP: usize = 17;
@@ -74,4 +75,52 @@ pub fn signed(w: u64) -> i64
     } else {
         -1 - ((u64::MAX - w) as i64)
     }
+}
+
+// The most words that are read in a row.
+pub const MOST: usize = 64;
+
+// The n words from a byte on, and zeros.
+pub fn words(text: &[u8], at: usize, n: usize) -> [u64; 64]
+    requires { ⌜ (at ≤ 65536) × (n ≤ 64) ⌝ }
+    ensures { λ r. ⌜ Front n r ⌝ }
+    ensures { λ r. ⌜ ((k : ℕ) → k < n → getD r k 0 ≡ wordAt (now (text .entry)) (at + 17 * k)) ⌝ }
+{
+    let mut room = [0u64; 64];
+    let mut i = 0;
+    while i < n {
+        room[i] = word(text, at + STEP * i);
+        i += 1;
+    }
+    room
+}
+
+// The same words as signed numbers.
+pub fn times(text: &[u8], at: usize, n: usize) -> [i64; 64]
+    requires { ⌜ (at ≤ 65536) × (n ≤ 64) ⌝ }
+    ensures { λ r. ⌜ Front n r ⌝ }
+    ensures { λ r. ⌜ ((k : ℕ) → k < n → getD r k (pos 0) ≡ toZ w64 (wordAt (now (text .entry)) (at + 17 * k))) ⌝ }
+{
+    let mut room = [0i64; 64];
+    let mut i = 0;
+    while i < n {
+        room[i] = signed(word(text, at + STEP * i));
+        i += 1;
+    }
+    room
+}
+
+// Whether the words from a byte on are these.
+pub fn agree(text: &[u8], at: usize, answers: &[u64]) -> bool
+    requires { ⌜ at + 17 * length (now answers) < 2 ^ 64 ⌝ }
+    ensures { λ r. ⌜ r ≡ agrees (now (text .entry)) at (now (answers .entry)) ⌝ }
+{
+    let mut i = 0;
+    while i < answers.len() {
+        if answers[i] != word(text, at + STEP * i) {
+            return false;
+        }
+        i += 1;
+    }
+    true
 }

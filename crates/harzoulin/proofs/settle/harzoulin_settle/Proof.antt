@@ -1,9 +1,7 @@
 -- `harzoulin::settle::harzoulin_settle` meets its contract: it is `config::settle::settle` with its answer written behind the pointers.
 -- Assumes nothing.
-use mathlib.Core.List.{List}
-use mathlib.Core.Path.{_≡_, refl, sym, _∙_}
+use mathlib.Core.Path.{_≡_, sym, _∙_}
 use borrow.Author.Needs.{needs}
-use lib.IntN.{ℤ}
 use mir.Syntax.{w64}
 use mir.Val.{SFits}
 use mir.Facts.{toZ-ofZ}
@@ -12,8 +10,6 @@ use Rattle.config.specs.declared.settings.RollupConfig.{RollupConfig}
 use Rattle.harzoulin.specs.Settle.{configOf}
 use Rattle.harzoulin.proofs.settle.harzoulin_settle.Statement.{statement}
 use Rattle.harzoulin.proofs.settle.harzoulin_settle.Tie as tie
-use Rattle.harzoulin.proofs.settle.harzoulin_settle.Reads as reads
-use Rattle.harzoulin.proofs.settle.harzoulin_settle.Lts as lts
 
 settle-requires : tie.Need-settle-requires
 settle-requires c κs = search needs

@@ -1,12 +1,15 @@
--- The figure of the chosen rollup, by cases of the choice, and its bits.
+-- What `eval` asks and answers: the figure of the chosen rollup, by cases of the choice, and its bits.
 -- Assumes nothing.
 use mathlib.Core.List.{List}
-use Prim.Native.Nat.{ℕ}
+use mathlib.Core.Path.{_≡_}
+use Prim.Native.Nat.{ℕ, _*_, _≤_}
+use lib.ListN.{length}
 use lib.IntN.{ℤ}
 use lib.Ieee.{Float, nan, binary64, toBits}
 use Rattle.rollup.specs.declared.types.RollupFuncArg.{RollupFuncArg}
 use Rattle.rollup.specs.declared.handler.RollupHandler.{RollupHandler}
 use Rattle.rollup.specs.declared.handler.RollupHandler.the-variants.{Avg, Min, Max, Mad, Median, Tmin, Tmax, Tfirst, Tlast, TlastChange, Sum, Sum2, RateOverSum, Range, Absent, Present, Count, Stddev, Stdvar, IncreasePure, Lifetime, Lag, ScrapeInterval, Changes, ChangesPrometheus, Increases, Resets, ModeOverTime, AscentOverTime, DescentOverTime, ZscoreOverTime, First, Default, Distinct, DerivSlow, DerivFast, Ideriv, Delta, DeltaPrometheus, Idelta, Open, Close, High, Low, Integrate, Quantile, PredictLinear, HoltWinters}
+use Rattle.rollup.specs.Types.{Ranged}
 use Rattle.rollup.specs.Window.{floats, firstOf, lastOf}
 use Rattle.rollup.specs.RollupFns.{avgOf, minOf, maxOf, tminOf, tmaxOf, tfirstOf, tlastOf, tlastChangeOf, sumOf, sum2Of, rateOverSumOf, rangeOf, absentOf, presentOf, countOf, increasePureOf, lifetimeOf, lagOf, scrapeIntervalOf, changesOf, changesPrometheusOf, increasesOf, resetsOf, ascentOverTimeOf, descentOverTimeOf, zscoreOverTimeOf, distinctOf, predictLinearOf}
 use Rattle.math.specs.Quantile.{madOf, medianOf, quantileOf}
@@ -17,6 +20,12 @@ use Rattle.rollup.specs.Delta.{deltaOf, deltaPrometheusOf, ideltaOf}
 use Rattle.rollup.specs.Candlestick.{openOf, closeOf, highOf, lowOf}
 use Rattle.rollup.specs.Integrate.{integrateOf}
 use Rattle.rollup.specs.HoltWinters.{holtWintersOf}
+
+-- what a caller shows: times in range, as many of them as values, and a work slice of twice that
+pub record Ready (r : RollupFuncArg) (values : List ℕ) (ts : List ℤ) (room : ℕ) : Type 0 where
+  pub ranged : Ranged r ts
+  pub same : length ts ≡ length values
+  pub space : 2 * length values ≤ room
 
 -- the figure for a record with the values xs and the times ts
 abbrev pub figureOf : RollupHandler → RollupFuncArg → List Float → List ℤ → Float
@@ -70,7 +79,7 @@ figureOf (PredictLinear secs) r xs ts = predictLinearOf r xs ts secs
 figureOf (HoltWinters sf tf) r xs ts = holtWintersOf sf tf (r .«prev_value») xs
 
 -- its bits, with the one pattern for NaN
-abbrev pub evalOf : RollupHandler → RollupFuncArg → List ℕ → List ℤ → ℕ
+unfoldable pub evalOf : RollupHandler → RollupFuncArg → List ℕ → List ℤ → ℕ
 evalOf h r values ts = toBits binary64 (figureOf h r (floats values) ts)
 
 -- the table of rollup_config.rs

@@ -1,0 +1,202 @@
+-- A piece passes the rows of the series as its call does; its times lie in the call's span, its grid is a stretch of the call's, and what a call goes by
+-- lies in the ranges of a settled run. So only the rows on slices are left to refuse it.
+-- Assumes nothing.
+use mathlib.Core.Path.{_≡_, refl, sym, ap, ap₂, _∙_}
+use mathlib.Core.Bool.{Bool, true, false, _||_, _&&_, not, true≢false}
+use mathlib.Core.List.{List, [], _∷_}
+use Prim.Native.Nat.{ℕ, _+_, _-_, _*_, _≤_, _<_}
+use native.Mathlib.Omega.{arith}
+use borrow.Author.Tests.{le-leb, le-ltb, ltb-false}
+use lib.Dec.{leb, ltb}
+use lib.IntN.{ℤ, pos, negsuc, negℤ, natAbs}
+use lib.ListN.{length, getD}
+use lib.Signed.{leZ, ltZ}
+use Rattle.config.specs.Rows.{gridChecked, maxPoints, outside, perCallOver, rangesChecked, row6, row7, row8, row9, row10, row11, settingOutside, settingsChecked, settledRow8, settledRow9, settledSettings, spanOutside}
+use Rattle.config.specs.Settle.{settleOf, settledReach, settledWindow}
+use Rattle.config.specs.declared.settings.RollupConfig.{RollupConfig}
+use Rattle.config.proofs.Limits.{settled-in-range}
+use Rattle.config.proofs.Passed.{settings-passed, spans}
+use Rattle.rollup.specs.declared.handler.RollupHandler.{RollupHandler}
+use Rattle.run.specs.Run.{Lent, Plan, outcome, runPlan, settledChecked, settledPlan, slicesChecked}
+use Rattle.run.specs.declared.SettledConfig.{SettledConfig}
+use Rattle.series.specs.Refusals.{firstOf, refusedIf}
+use Rattle.series.specs.Rows.{row1, row5, seriesChecked, timesChecked}
+use Rattle.series.specs.declared.refusal.Checked.{Checked}
+use Rattle.series.specs.declared.refusal.Checked.the-variants.{Accepted, Refused}
+use Rattle.series.specs.declared.refusal.Refusal.{Refusal}
+use Rattle.series.specs.declared.refusal.Refusal.the-variants.{OutputShort, PreparedShort, SettingOutside, SpanOutside, StepOutside, TooManyPoints, WorkShort}
+use Rattle.series.specs.declared.steps.PreFunction.{PreFunction}
+use Rattle.series.proofs.Accepted.{AllAccept, all-accept, fails}
+use Rattle.times.specs.Grid.{Spans, gridFrom, gridSize, timeAt}
+use Rattle.times.specs.Milli.{timeLimit, Within}
+use Rattle.times.proofs.GridLaws.{grid-at, grid-length, size-of-steps, spans-cut, time-add}
+use Rattle.times.proofs.Milli.{within-test}
+use Rattle.times.proofs.Order.{lt-not-le}
+use Rattle.claims.specs.Calls.{Call, Settings, run, settled, checked, plan, planBy, returned}
+use Rattle.claims.specs.Piece.{OnlySlices, piece, stepOf}
+use Rattle.claims.proofs.Calls.{rows-accept, settingsRows}
+
+abbrev startOf : Settings → ℤ
+startOf (run rc) = rc .start
+startOf (settled sc) = sc .start
+
+abbrev endOf : Settings → ℤ
+endOf (run rc) = rc .end
+endOf (settled sc) = sc .end
+
+-- what the rows on settings leave of an accepted call
+record Sound (s : Settings) (p : Plan) : Type 0 where
+  span : Spans (startOf s) (endOf s) (stepOf s)
+  grid : p .outputs ≡ gridFrom (startOf s) (stepOf s) (gridSize (startOf s) (endOf s) (stepOf s))
+  eight : settledRow8 (p .window) (p .reach) ≡ Accepted
+  nine : settledRow9 (p .per-call) ≡ Accepted
+  few : gridSize (startOf s) (endOf s) (stepOf s) ≤ maxPoints
+
+few-points : (start end step : ℤ) → row11 start end step ≡ Accepted → gridSize start end step ≤ maxPoints
+few-points start end step e = ltb-false _ _ (fails (ltb maxPoints (gridSize start end step)) TooManyPoints e)
+
+second-false : (a b : Bool) → (a || b) ≡ false → b ≡ false
+second-false true b e = absurd (true≢false e)
+second-false false b e = e
+
+per-call-passes : (lookback staleness limit : ℤ) (n : ℕ) → row9 lookback staleness limit n ≡ Accepted → settledRow9 n ≡ Accepted
+unfolding settingOutside
+per-call-passes lookback staleness limit n e =
+    let others = outside (pos 0) (pos timeLimit) lookback || outside (pos 0) (pos timeLimit) staleness || outside (pos 0) (pos timeLimit) limit in
+    rw (second-false others (perCallOver n) (fails _ SettingOutside e))
+
+module _ (ts : List ℤ) (vs : List ℕ) (pre : PreFunction) (h : RollupHandler) where
+  sound-settled : (sc : SettledConfig) → settingsRows (settled sc) ≡ Accepted → Sound (settled sc) (settledPlan ts vs pre h sc)
+  unfolding settledSettings
+  sound-settled sc e =
+      let rows =
+      all-accept
+      (row6 (sc .step)
+      ∷ row7 (sc .start) (sc .end)
+      ∷ settledRow8 (sc .window) (sc .reach)
+      ∷ settledRow9 (sc .«samples_scanned_per_call»)
+      ∷ row11 (sc .start) (sc .end) (sc .step)
+      ∷ [])
+      e in
+      record {
+        span = spans (sc .start) (sc .end) (sc .step) (fails _ StepOutside (rows .0)) (fails _ SpanOutside (rows .1 .0));
+        grid = refl;
+        eight = rows .1 .1 .0;
+        nine = rows .1 .1 .1 .0;
+        few = few-points (sc .start) (sc .end) (sc .step) (rows .1 .1 .1 .1 .0);
+      }
+
+  sound-run : (rc : RollupConfig) → timesChecked ts ≡ Accepted → settingsRows (run rc) ≡ Accepted → Sound (run rc) (runPlan ts vs pre h rc)
+  unfolding settingsChecked settleOf
+  sound-run rc times e =
+      let limit = rc .«max_points_per_series» in
+      let ranges = rangesChecked (rc .start) (rc .end) (rc .step) (rc .window) (rc .«lookback_delta») (rc .«min_staleness_interval») limit (rc .«samples_scanned_per_call») in
+      let rows = all-accept (ranges ∷ gridChecked (rc .start) (rc .end) (rc .step) limit ∷ []) e in
+      let each =
+      all-accept
+      (row6 (rc .step)
+      ∷ row7 (rc .start) (rc .end)
+      ∷ row8 (rc .window)
+      ∷ row9 (rc .«lookback_delta») (rc .«min_staleness_interval») limit (rc .«samples_scanned_per_call»)
+      ∷ [])
+      (rows .0) in
+      let grid-rows = all-accept (row10 (rc .start) (rc .end) (rc .step) limit ∷ row11 (rc .start) (rc .end) (rc .step) ∷ []) (rows .1 .0) in
+      record {
+        span = settings-passed rc e .spans;
+        grid = refl;
+        eight =
+            settled-in-range ts rc (pos (settledWindow ts rc)) (pos (settledReach ts rc)) (gridSize (rc .start) (rc .end) (rc .step)) (rw (times, e));
+        nine = per-call-passes (rc .«lookback_delta») (rc .«min_staleness_interval») limit (rc .«samples_scanned_per_call») (each .1 .1 .1 .0);
+        few = few-points (rc .start) (rc .end) (rc .step) (grid-rows .1 .0);
+      }
+
+sound : (c : Call) → checked c ≡ Accepted → Sound (c .settings) (plan c)
+unfolding seriesChecked
+sound c ok = go (c .settings) (rows-accept c ok .1 .0)
+  where
+    times : timesChecked (c .times) ≡ Accepted
+    times = all-accept (row1 (c .times) (c .values) ∷ timesChecked (c .times) ∷ row5 (c .values) ∷ []) (rows-accept c ok .0) .1 .0
+
+    go : (s : Settings) → settingsRows s ≡ Accepted → Sound s (planBy c s)
+    go (run rc) e = sound-run (c .times) (c .values) (c .pre) (c .handler) rc times e
+    go (settled sc) e = sound-settled (c .times) (c .values) (c .pre) (c .handler) sc e
+
+-- ---- rows 6 and 7 let pass what they are known to
+
+within-outside : (t : ℤ) → Within timeLimit t → outside (negℤ (pos timeLimit)) (pos timeLimit) t ≡ false
+unfolding outside
+within-outside t w = rw (lt-not-le t (negℤ (pos timeLimit)), lt-not-le (pos timeLimit) t) (go (leZ (negℤ (pos timeLimit)) t) (leZ t (pos timeLimit)) (sym (within-test timeLimit t) ∙ le-leb (natAbs t) timeLimit (w .size)))
+  where
+    go : (a b : Bool) → (a && b) ≡ true → not a || not b ≡ false
+    go true true e = refl
+    go true false e = absurd (true≢false (sym e))
+    go false b e = absurd (true≢false (sym e))
+
+span-passes : {start end step : ℤ} → Spans start end step → row7 start end ≡ Accepted
+unfolding spanOutside
+span-passes {start} {end} s =
+    rw (within-outside start (s .start-within), within-outside end (s .end-within), lt-not-le end start, s .ordered)
+
+step-passes : (step : ℤ) → leZ (pos 1) step ≡ true → Within timeLimit step → row6 step ≡ Accepted
+unfolding outside
+step-passes (pos n) h w = rw (lt-not-le (pos n) (pos 1), h, le-ltb timeLimit n (w .size))
+step-passes (negsuc n) h w = absurd (true≢false (sym h))
+
+-- ---- the rows on slices
+
+refused-not : {r : Refusal} → Refused r ≡ Accepted → ⊥
+refused-not e = let clash : _≡_ {A = ℕ} 0 1 = cc in omega arith
+
+-- where the others accept
+slices-only : (x y : Checked) (d p w : Bool) (q : Plan) (l : Lent) → x ≡ Accepted → y ≡ Accepted
+    → OnlySlices (outcome (firstOf (x ∷ y ∷ firstOf (refusedIf d OutputShort ∷ refusedIf p PreparedShort ∷ refusedIf w WorkShort ∷ []) ∷ [])) q l .answer)
+slices-only (Refused r) y d p w q l e f = absurd (refused-not e)
+slices-only Accepted (Refused r) d p w q l e f = absurd (refused-not f)
+slices-only Accepted Accepted true p w q l e f = (omega arith, omega arith)
+slices-only Accepted Accepted false true w q l e f = (omega arith, omega arith)
+slices-only Accepted Accepted false false true q l e f = (omega arith, omega arith)
+slices-only Accepted Accepted false false false q l e f = tt
+
+all-accepted : (rows : List Checked) → AllAccept rows → firstOf rows ≡ Accepted
+all-accepted [] a = refl
+all-accepted (r ∷ rows) a = rw (a .0) (all-accepted rows (a .1))
+
+module _ (c : Call) (ok : checked c ≡ Accepted) (a b : ℕ) (order : a ≤ b) (inside : b < length (plan c .outputs)) where
+  abbrev step : ℤ
+  step = stepOf (c .settings)
+
+  abbrev from : ℤ
+  from = getD (plan c .outputs) a (pos 0)
+
+  abbrev to : ℤ
+  to = getD (plan c .outputs) b (pos 0)
+
+  piece-settings : settledSettings from to step (plan c .window) (plan c .reach) (plan c .per-call) ≡ Accepted
+  unfolding settledSettings
+  piece-settings =
+      let s = sound c ok in
+      let start = startOf (c .settings) in
+      let n = gridSize start (endOf (c .settings)) step in
+      let below : b < n = rw (s .grid, grid-length start step n) at inside in
+      let first : from ≡ timeAt start step a = ap (λ (ts : List ℤ). getD ts a (pos 0)) (s .grid) ∙ grid-at start step n a (omega arith) in
+      let last : to ≡ timeAt start step b = ap (λ (ts : List ℤ). getD ts b (pos 0)) (s .grid) ∙ grid-at start step n b below in
+      let steps-on : timeAt (timeAt start step a) step (b - a) ≡ timeAt start step b = time-add start step a (b - a) ∙ ap (timeAt start step) (omega arith) in
+      let size : gridSize (timeAt start step a) (timeAt start step b) step ≡ b - a + 1 =
+      rw steps-on at (size-of-steps (timeAt start step a) step (b - a) (s .span .step-positive)) in
+      all-accepted
+      (row6 step ∷ row7 from to ∷ settledRow8 (plan c .window) (plan c .reach) ∷ settledRow9 (plan c .per-call) ∷ row11 from to step ∷ []) (
+        step-passes step (s .span .step-positive) (s .span .step-within),
+        (
+          rw (first, last) (span-passes (spans-cut (s .span) a b order below)),
+          (s .eight, (s .nine, (rw (first, last, size, le-ltb maxPoints (b - a + 1) (omega (arith, s .few))), tt))),
+        ),
+      )
+
+  -- A settled run with the series, choices, window, reach and step of an accepted run or settled run, from one time of the grid to the same or a later one,
+  -- is refused by no row but 12 to 14.
+  pub piece-accepted : (l : Lent) → OnlySlices (returned (piece c a b l) .answer)
+  unfolding settledChecked slicesChecked
+  piece-accepted l =
+      slices-only (seriesChecked (c .times) (c .values)) (settledSettings from to step (plan c .window) (plan c .reach) (plan c .per-call))
+      (ltb (length (l .dst)) (gridSize from to step)) (ltb (length (l .prepared)) (length (c .values))) (ltb (length (l .work)) (2 * length (c .values)))
+      (plan (piece c a b l)) l (rows-accept c ok .0) piece-settings

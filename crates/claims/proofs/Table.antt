@@ -1,0 +1,30 @@
+-- The table of document 01's cases with † holds: the checker computes each case from the definitions.
+-- Assumes nothing.
+use mathlib.Core.Path.{_≡_, refl}
+use mathlib.Core.List.{List, map, zipWith}
+use Prim.Native.Nat.{ℕ}
+use lib.Ieee.{add, div, eq, isNan, le, lt, mul, ne, neg, ofBits, ofInt, sub, toBits, toSigned, toUnsigned}
+use Rattle.ieee.specs.Root.{sqrtOf}
+use Rattle.ieee.specs.Value.{absOf, floorOf}
+use Rattle.math.specs.Deviation.{stdvarOf}
+use Rattle.math.specs.Mode.{modeOf}
+use Rattle.math.specs.Quantile.{quantileOf}
+use Rattle.math.specs.Sort.{sortBy}
+use Rattle.math.specs.Values.{kept}
+use Rattle.times.specs.Readings.{filter}
+use Rattle.series.specs.Steps.{deltas, deltasFrom, derivs, derivsFrom, grown, intervalsFrom, lifted, preparedOf, resetsFrom, sloped}
+use Rattle.rollup.specs.Candlestick.{candlestick, closeOf, firstCandle}
+use Rattle.rollup.specs.Eval.{evalOf}
+use Rattle.rollup.specs.Delta.{deltaFrom, deltaOf, firstStep, startsLow}
+use Rattle.rollup.specs.HoltWinters.{holtWintersOf, outOfRange, smoothFrom}
+use Rattle.rollup.specs.RollupFns.{changesFrom, changesPrometheusOf, lagOf, maxOf, minOf}
+use Rattle.rollup.specs.Window.{firstOr, floats, foldFrom, isEmpty, lastOr, upToLast}
+use Rattle.config.specs.Estimate.{distances, distancesFrom, estimateOf}
+use Rattle.config.specs.Reach.{reachOf}
+use Rattle.run.specs.Figures.{scans}
+use Rattle.run.specs.Record.{lastOf}
+use Rattle.claims.specs.Table.{Case, fromSecond, table}
+
+pub table-holds : map (λ (x : Case). x .computed) table ≡ map (λ (x : Case). x .stated) table
+unfolding add div eq isNan le lt mul ne neg ofBits ofInt sub toBits toSigned toUnsigned sqrtOf absOf floorOf stdvarOf modeOf quantileOf sortBy kept filter zipWith deltas deltasFrom derivs derivsFrom grown intervalsFrom lifted preparedOf resetsFrom sloped candlestick closeOf firstCandle deltaFrom deltaOf firstStep startsLow holtWintersOf outOfRange smoothFrom changesFrom changesPrometheusOf lagOf maxOf minOf firstOr floats foldFrom isEmpty lastOr upToLast distances distancesFrom estimateOf reachOf scans lastOf fromSecond evalOf
+table-holds = refl

@@ -1,0 +1,6 @@
+-- The statements' definitions, a file for each claim.
+pub mod Agree
+pub mod Calls
+pub mod Cut
+pub mod Piece
+pub mod Table

@@ -1,0 +1,54 @@
+-- `run::record::record_at` meets its contract: times within 2^50 and lengths within 2^52 leave both differences in an `i64`, and each field is a callee's answer.
+-- Assumes nothing.
+use borrow.Author.Needs.{needs}
+use mir.Syntax.{w64}
+use mir.ValLaws.{toZ-ofZ}
+use Rattle.times.proofs.Milli.{within-fits}
+use Rattle.run.proofs.Limits.{start-fits, limit-fits, limit-back}
+use Rattle.run.proofs.record.record_at.Statement.{statement}
+use Rattle.run.proofs.record.record_at.Tie as tie
+
+sub-t-start : tie.Need-sub-t-start
+sub-t-start c = start-fits (c .before .pre .0) (c .before .pre .1 .0)
+
+sub-limit : tie.Need-sub-limit
+sub-limit c = limit-fits (c .before .pre .0) (c .before .pre .1 .0) (c .before .pre .1 .1)
+
+predecessor-time-requires : tie.Need-predecessor-time-requires
+predecessor-time-requires c κs = search needs
+
+value-before-requires : tie.Need-value-before-requires
+value-before-requires c κs = search needs
+
+value-if-requires : tie.Need-value-if-requires
+value-if-requires c κs = search needs
+
+value-at-requires : tie.Need-value-at-requires
+value-at-requires c κs = search needs
+
+returns : tie.Need-returns
+returns c =
+    let s = c .before .before .before .before .before in
+    let p = c .before .before .before .predecessor-time in
+    cc (
+      limit-back (s .pre .0) (s .pre .1 .0) (s .pre .1 .1),
+      toZ-ofZ w64 (p .result) (record { sfits = p .ok }),
+      toZ-ofZ w64 _ (within-fits tt (s .pre .0)),
+      toZ-ofZ w64 _ (within-fits tt (s .pre .1 .0)),
+      p .ensures,
+      c .before .before .value-before .ensures,
+      c .before .value-if .ensures,
+      c .value-at .ensures,
+    )
+
+pub record-at-spec : {M : Type 1} → statement M
+record-at-spec =
+    tie.close
+    (tie.spec
+    sub-t-start
+    sub-limit
+    predecessor-time-requires
+    value-before-requires
+    value-if-requires
+    value-at-requires
+    returns)

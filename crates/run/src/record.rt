@@ -1,0 +1,81 @@
+// The window record at an output time, from the indexes that the searches found: i readings stand at or before the
+// window's start, and j at or before the output time.
+
+ghost use mathlib.Core.Path.{_≡_};
+ghost use mathlib.Core.Option.{Option·getD};
+ghost use Prim.Native.Nat.{_^_};
+ghost use lib.IntN.{_-ℤ_};
+ghost use lib.Signed.{ltZ};
+ghost use Rattle.times.specs.Milli.{Within};
+ghost use Rattle.run.specs.Index.{valueAt, valueBefore, valueIf, predecessorAt, recordOf};
+use rollup::types::RollupFuncArg;
+
+// The value at k, and NaN where there is none.
+fn value_at(values: &[u64], k: usize) -> f64
+    ensures { λ r. ⌜ r ≡ valueAt (now (values .entry)) k ⌝ }
+{
+    if k < values.len() {
+        ieee::value_of(values[k])
+    } else {
+        0.0 / 0.0
+    }
+}
+
+// The value before k, and NaN where there is none.
+fn value_before(values: &[u64], k: usize) -> f64
+    ensures { λ r. ⌜ r ≡ valueBefore (now (values .entry)) k ⌝ }
+{
+    if k > 0 {
+        value_at(values, k - 1)
+    } else {
+        0.0 / 0.0
+    }
+}
+
+// The time before i where it is above the limit and a reading stands at i, and the limit otherwise.
+fn predecessor_time(timestamps: &[i64], i: usize, limit: i64) -> i64
+    ensures { λ r. ⌜ r ≡ Option·getD (predecessorAt (now (timestamps .entry)) i limit) limit ⌝ }
+{
+    if i == 0 {
+        return limit;
+    }
+    if timestamps.len() <= i {
+        return limit;
+    }
+    let prev_ts = timestamps[i - 1];
+    if prev_ts > limit { prev_ts } else { limit }
+}
+
+// A value where its time is above the limit, and NaN otherwise.
+fn value_if(time: i64, limit: i64, x: f64) -> f64
+    ensures { λ r. ⌜ r ≡ valueIf (ltZ limit time) x ⌝ }
+{
+    if time > limit { x } else { 0.0 / 0.0 }
+}
+
+// The record at t_end, for the window's length and the reach.
+pub fn record_at(
+    timestamps: &[i64],
+    values: &[u64],
+    i: usize,
+    j: usize,
+    t_end: i64,
+    window: i64,
+    max_prev_interval: i64,
+) -> RollupFuncArg
+    requires { ⌜ Within (2 ^ 50) «t_end» ⌝ ∗ ⌜ Within (2 ^ 52) window ⌝ ∗ ⌜ Within (2 ^ 52) «max_prev_interval» ⌝ }
+    ensures { λ r. ⌜ r ≡ recordOf (now (timestamps .entry)) (now (values .entry)) i j window «t_end» («t_end» -ℤ window -ℤ «max_prev_interval») ⌝ }
+{
+    let t_start = t_end - window;
+    let limit = t_start - max_prev_interval;
+    let prev_timestamp = predecessor_time(timestamps, i, limit);
+    let real_prev_value = value_before(values, i);
+    RollupFuncArg {
+        prev_value: value_if(prev_timestamp, limit, real_prev_value),
+        prev_timestamp,
+        real_prev_value,
+        real_next_value: value_at(values, j),
+        curr_timestamp: t_end,
+        window,
+    }
+}
