@@ -4,3 +4,4 @@ pub mod Index
 pub mod Limits
 pub mod Loop
 pub mod Range
+pub mod Passed

@@ -77,10 +77,7 @@ pub fn signed(w: u64) -> i64
     }
 }
 
-// The most words that are read in a row.
-pub const MOST: usize = 64;
-
-// The n words from a byte on, and zeros.
+// The n words from a byte on, at most 64, and zeros.
 pub fn words(text: &[u8], at: usize, n: usize) -> [u64; 64]
     requires { ⌜ (at ≤ 65536) × (n ≤ 64) ⌝ }
     ensures { λ r. ⌜ Front n r ⌝ }
