@@ -17,6 +17,7 @@ use Rattle.config.specs.declared.settings.RollupConfig.{RollupConfig}
 use Rattle.config.proofs.Limits.{settled-in-range}
 use Rattle.config.proofs.Passed.{settings-passed, spans}
 use Rattle.rollup.specs.declared.handler.RollupHandler.{RollupHandler}
+use Rattle.run.proofs.Passed.{few-points, per-call-passes}
 use Rattle.run.specs.Run.{Lent, Plan, outcome, runPlan, settledChecked, settledPlan, slicesChecked}
 use Rattle.run.specs.declared.SettledConfig.{SettledConfig}
 use Rattle.series.specs.Refusals.{firstOf, refusedIf}
@@ -51,19 +52,6 @@ record Sound (s : Settings) (p : Plan) : Type 0 where
   eight : settledRow8 (p .window) (p .reach) ≡ Accepted
   nine : settledRow9 (p .per-call) ≡ Accepted
   few : gridSize (startOf s) (endOf s) (stepOf s) ≤ maxPoints
-
-few-points : (start end step : ℤ) → row11 start end step ≡ Accepted → gridSize start end step ≤ maxPoints
-few-points start end step e = ltb-false _ _ (fails (ltb maxPoints (gridSize start end step)) TooManyPoints e)
-
-second-false : (a b : Bool) → (a || b) ≡ false → b ≡ false
-second-false true b e = absurd (true≢false e)
-second-false false b e = e
-
-per-call-passes : (lookback staleness limit : ℤ) (n : ℕ) → row9 lookback staleness limit n ≡ Accepted → settledRow9 n ≡ Accepted
-unfolding settingOutside
-per-call-passes lookback staleness limit n e =
-    let others = outside (pos 0) (pos timeLimit) lookback || outside (pos 0) (pos timeLimit) staleness || outside (pos 0) (pos timeLimit) limit in
-    rw (second-false others (perCallOver n) (fails _ SettingOutside e))
 
 module _ (ts : List ℤ) (vs : List ℕ) (pre : PreFunction) (h : RollupHandler) where
   sound-settled : (sc : SettledConfig) → settingsRows (settled sc) ≡ Accepted → Sound (settled sc) (settledPlan ts vs pre h sc)
