@@ -1,6 +1,7 @@
 // The exported C functions, declared in include/harzoulin.h.
 // Each returns document 01's number, 0 where the call was accepted, and sets *index, to 0 where there is none.
 
+pub mod choice;
 pub mod settle;
 
 ghost use mathlib.Core.Path.{_≡_};
