@@ -1,7 +1,18 @@
 // Run and settled run: from a series, a preparing step, a rollup and settings to one number per output time and a count.
 // On a refusal every slice is as it was.
 
+use config::settings::RollupConfig;
+use config::settings::check_settled;
+use config::settle::Settled;
+use config::settle::settle_settings;
+use rollup::handler::RollupHandler;
+use series::Checked;
+use series::PreFunction;
 use series::Refusal;
+use series::check_series;
+use times::grid::points;
+ghost use mathlib.Core.Path.{_≡_};
+ghost use Rattle.run.specs.Run.{lent, runOf, settledRunOf, refusalOf};
 
 pub mod execute;
 pub mod outputs;
@@ -21,4 +32,133 @@ pub struct SettledConfig {
     pub window: i64,
     pub reach: i64,
     pub samples_scanned_per_call: u64,
+}
+
+// The refusal of an answer that is one.
+fn refused(settled: Settled) -> Figures
+    ensures { λ r. ⌜ r ≡ refusalOf settled ⌝ }
+{
+    match settled {
+        Settled::Refused(r) => Figures::Refused(r),
+        Settled::Accepted {
+            window: _,
+            reach: _,
+            points: _,
+        } => Figures::Counted(0),
+    }
+}
+
+// The figures over the grid of rc, with the window and the reach that the series and rc settle to.
+pub fn run(
+    timestamps: &[i64],
+    values: &[u64],
+    pre: PreFunction,
+    handler: RollupHandler,
+    rc: RollupConfig,
+    dst_values: &mut [u64],
+    prepared: &mut [u64],
+    work: &mut [f64],
+) -> Figures
+    ensures answer { λ r. ⌜ r ≡ runOf (now (timestamps .entry)) (now (values .entry)) pre handler rc (lent (now («dst_values» .entry)) (now (prepared .entry)) (now (work .entry))) .answer ⌝ }
+    ensures output { λ _. ⌜ now («dst_values» .exit) ≡ runOf (now (timestamps .entry)) (now (values .entry)) pre handler rc (lent (now («dst_values» .entry)) (now (prepared .entry)) (now (work .entry))) .slices .dst ⌝ }
+    ensures prepared { λ _. ⌜ now (prepared .exit) ≡ runOf (now (timestamps .entry)) (now (values .entry)) pre handler rc (lent (now («dst_values» .entry)) (now (prepared .entry)) (now (work .entry))) .slices .prepared ⌝ }
+    ensures work { λ _. ⌜ now (work .exit) ≡ runOf (now (timestamps .entry)) (now (values .entry)) pre handler rc (lent (now («dst_values» .entry)) (now (prepared .entry)) (now (work .entry))) .slices .work ⌝ }
+{
+    let checked = check_series(timestamps, values);
+    if let Checked::Refused(r) = checked {
+        return Figures::Refused(r);
+    }
+    let settled = settle_settings(timestamps, rc);
+    let Settled::Accepted {
+        window,
+        reach,
+        points,
+    } = settled
+    else {
+        return refused(settled);
+    };
+    let room = execute::check_slices(
+        values.len(),
+        points,
+        dst_values.len(),
+        prepared.len(),
+        work.len(),
+    );
+    if let Checked::Refused(r) = room {
+        return Figures::Refused(r);
+    }
+    Figures::Counted(execute::execute(
+        timestamps,
+        values,
+        pre,
+        handler,
+        rc.start,
+        rc.step,
+        points,
+        window,
+        reach,
+        rc.samples_scanned_per_call,
+        dst_values,
+        prepared,
+        work,
+    ))
+}
+
+// The figures over the grid of sc, with the window and the reach that it is given.
+pub fn settled_run(
+    timestamps: &[i64],
+    values: &[u64],
+    pre: PreFunction,
+    handler: RollupHandler,
+    sc: SettledConfig,
+    dst_values: &mut [u64],
+    prepared: &mut [u64],
+    work: &mut [f64],
+) -> Figures
+    ensures answer { λ r. ⌜ r ≡ settledRunOf (now (timestamps .entry)) (now (values .entry)) pre handler sc (lent (now («dst_values» .entry)) (now (prepared .entry)) (now (work .entry))) .answer ⌝ }
+    ensures output { λ _. ⌜ now («dst_values» .exit) ≡ settledRunOf (now (timestamps .entry)) (now (values .entry)) pre handler sc (lent (now («dst_values» .entry)) (now (prepared .entry)) (now (work .entry))) .slices .dst ⌝ }
+    ensures prepared { λ _. ⌜ now (prepared .exit) ≡ settledRunOf (now (timestamps .entry)) (now (values .entry)) pre handler sc (lent (now («dst_values» .entry)) (now (prepared .entry)) (now (work .entry))) .slices .prepared ⌝ }
+    ensures work { λ _. ⌜ now (work .exit) ≡ settledRunOf (now (timestamps .entry)) (now (values .entry)) pre handler sc (lent (now («dst_values» .entry)) (now (prepared .entry)) (now (work .entry))) .slices .work ⌝ }
+{
+    let checked = check_series(timestamps, values);
+    if let Checked::Refused(r) = checked {
+        return Figures::Refused(r);
+    }
+    let settings = check_settled(
+        sc.start,
+        sc.end,
+        sc.step,
+        sc.window,
+        sc.reach,
+        sc.samples_scanned_per_call,
+    );
+    if let Checked::Refused(r) = settings {
+        return Figures::Refused(r);
+    }
+    let n = points(sc.start, sc.end, sc.step);
+    let room = execute::check_slices(
+        values.len(),
+        n,
+        dst_values.len(),
+        prepared.len(),
+        work.len(),
+    );
+    if let Checked::Refused(r) = room {
+        return Figures::Refused(r);
+    }
+    Figures::Counted(execute::execute(
+        timestamps,
+        values,
+        pre,
+        handler,
+        sc.start,
+        sc.step,
+        n,
+        sc.window,
+        sc.reach,
+        sc.samples_scanned_per_call,
+        dst_values,
+        prepared,
+        work,
+    ))
 }
