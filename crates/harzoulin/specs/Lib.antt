@@ -1,4 +1,5 @@
 pub mod Choice
+pub mod Figures
 pub mod Numbers
 pub mod Prepare
 pub mod Settle

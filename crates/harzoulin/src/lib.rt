@@ -2,6 +2,7 @@
 // Each returns document 01's number, 0 where the call was accepted, and sets *index, to 0 where there is none.
 
 pub mod choice;
+pub mod figures;
 pub mod settle;
 
 ghost use mathlib.Core.Path.{_≡_};
@@ -15,7 +16,7 @@ pub enum Step {
     Unknown,
 }
 
-fn step_of(pre: u32) -> Step
+pub fn step_of(pre: u32) -> Step
     ensures { λ r. ⌜ r ≡ stepOf pre ⌝ }
 {
     match pre {

@@ -1,0 +1,44 @@
+-- `harzoulin::figures::choose` meets its contract.
+-- Assumes nothing.
+use mathlib.Core.Path.{sym, _∙_}
+use borrow.Author.Needs.{needs}
+use Rattle.harzoulin.proofs.figures.choose.Statement.{statement}
+use Rattle.harzoulin.proofs.figures.choose.Tie as tie
+
+step-of-requires : tie.Need-step-of-requires
+step-of-requires c κs = search needs
+
+enum-known-step : tie.Need-enum-known-step
+enum-known-step c = search needs
+
+enum-told : tie.Need-enum-told
+enum-told c = search needs
+
+returns : tie.Need-returns
+returns c = rw (sym (c .before .before .step-of .ensures) ∙ c .enum-told .given .1)
+
+rollup-of-requires : tie.Need-rollup-of-requires
+rollup-of-requires c κs = search needs
+
+enum-known-chosen : tie.Need-enum-known-chosen
+enum-known-chosen c = search needs
+
+enum-told-2 : tie.Need-enum-told-2
+enum-told-2 c = search needs
+
+returns-2 : tie.Need-returns-2
+returns-2 c =
+    let r = c .before .before in
+    let step = sym (r .before .before .before .before .step-of .ensures) ∙ r .before .before .step .given .1 in
+    rw (step, sym (r .rollup-of .ensures) ∙ c .enum-told2 .given .1)
+
+returns-3 : tie.Need-returns-3
+returns-3 c =
+    let r = c .before .before .before in
+    let step = sym (r .before .before .before .before .step-of .ensures) ∙ r .before .before .step .given .1 in
+    rw (step, sym (r .rollup-of .ensures) ∙ c .before .chosen .given .1)
+
+pub choose-spec : {M : Type 1} → statement M
+choose-spec =
+    tie.close
+    (tie.spec step-of-requires enum-known-step enum-told returns rollup-of-requires enum-known-chosen enum-told-2 returns-2 returns-3)

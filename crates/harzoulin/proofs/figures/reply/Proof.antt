@@ -1,0 +1,30 @@
+-- `harzoulin::figures::reply` meets its contract.
+-- Assumes nothing.
+use borrow.Author.Needs.{needs}
+use Rattle.harzoulin.proofs.figures.reply.Statement.{statement}
+use Rattle.harzoulin.proofs.figures.reply.Tie as tie
+
+enum-known-figures : tie.Need-enum-known-figures
+enum-known-figures c = search needs
+
+index-requires : tie.Need-index-requires
+index-requires c κs = search needs
+
+number-requires : tie.Need-number-requires
+number-requires c κs = search needs
+
+enum-known-figures-2 : tie.Need-enum-known-figures-2
+enum-known-figures-2 c = search needs
+
+returns : tie.Need-returns
+returns c =
+    let e = c .before .before .before .figures .given .1 in
+    (rw e (c .number .ensures), (rw e (c .before .index .ensures), rw e))
+
+returns-2 : tie.Need-returns-2
+returns-2 c =
+    let e = c .before .figures2 .given .1 in
+    (rw e, (rw e, rw e))
+
+pub reply-spec : {M : Type 1} → statement M
+reply-spec = tie.close (tie.spec enum-known-figures index-requires number-requires enum-known-figures-2 returns returns-2)
