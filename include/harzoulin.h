@@ -37,4 +37,33 @@ uint64_t harzoulin_settle(const int64_t *timestamps, size_t timestamps_len, int6
                           uint64_t samples_scanned_per_call, int64_t *settled_window,
                           int64_t *reach, uint64_t *points, uint64_t *index);
 
+/* Writes one value per output time to the first entries of dst_values, and nothing past them, and
+ * sets *count, on acceptance only, to the number of samples counted. prepared and work are room
+ * that the call writes: prepared holds the prepared values afterwards, work +0.0.
+ * rollup: 0 to 47, the place in docs/ROLLUPS.md; first and second are the parameters of quantile
+ * (45), predict_linear (46) and holt_winters (47), which no other rollup reads. A number that names
+ * no step or no rollup is refused 28, before all else.
+ * Refusals: 1 to 11 as above; 12 dst_values is shorter than
+ * the grid; 13 prepared is shorter than the series; 14 work is shorter than twice the series. */
+uint64_t harzoulin_run(const int64_t *timestamps, size_t timestamps_len, const uint64_t *values,
+                       size_t values_len, uint32_t pre, uint32_t rollup, double first,
+                       double second, int64_t start, int64_t end, int64_t step, int64_t window,
+                       bool may_adjust_window, bool is_default_rollup, int64_t lookback_delta,
+                       int64_t min_staleness_interval, int64_t max_points_per_series,
+                       uint64_t samples_scanned_per_call, uint64_t *dst_values,
+                       size_t dst_values_len, uint64_t *prepared, size_t prepared_len,
+                       double *work, size_t work_len, uint64_t *count, uint64_t *index);
+
+/* The same with the window and the reach that harzoulin_settle gave, so that runs over parts of a
+ * grid give the answers of the whole.
+ * Refusals: as above, but 8 is a window or a reach outside 1..2^52, 9 is samples_scanned_per_call
+ * over 65,535, and there is no 10. */
+uint64_t harzoulin_settled_run(const int64_t *timestamps, size_t timestamps_len,
+                               const uint64_t *values, size_t values_len, uint32_t pre,
+                               uint32_t rollup, double first, double second, int64_t start,
+                               int64_t end, int64_t step, int64_t window, int64_t reach,
+                               uint64_t samples_scanned_per_call, uint64_t *dst_values,
+                               size_t dst_values_len, uint64_t *prepared, size_t prepared_len,
+                               double *work, size_t work_len, uint64_t *count, uint64_t *index);
+
 #endif
