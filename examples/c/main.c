@@ -1,0 +1,37 @@
+/* Two-minute figures of a probe, by the rollup core, and what a refusal looks like.
+ * Build and run: make -C examples/c run */
+#include <inttypes.h>
+#include <stdio.h>
+
+#include "harzoulin.h"
+
+enum { READINGS = 5, POINTS = 3, NONE = 0, AVG = 0, QUANTILE = 45 };
+
+static const int64_t timestamps[READINGS] = {60000, 120000, 180000, 300000, 360000};
+static const double values[READINGS] = {16.5, 16.75, 17.0, 18.5, 18.0};
+
+/* Runs a rollup over two-minute windows that end at minutes 2, 4 and 6. */
+static uint64_t run(uint32_t rollup, double first, int64_t step, double *figures, uint64_t *count,
+                    uint64_t *index) {
+    double prepared[READINGS], work[2 * READINGS];
+    return harzoulin_run(timestamps, READINGS, (const uint64_t *)values, READINGS, NONE, rollup,
+                         first, 0.0, 120000, 360000, step, 0, false, false, 0, 0, 0, 0,
+                         (uint64_t *)figures, POINTS, (uint64_t *)prepared, READINGS, work,
+                         2 * READINGS, count, index);
+}
+
+int main(void) {
+    double averages[POINTS], medians[POINTS];
+    uint64_t count, index;
+    if (run(AVG, 0.0, 120000, averages, &count, &index) != 0 ||
+        run(QUANTILE, 0.5, 120000, medians, &count, &index) != 0) {
+        return 1;
+    }
+    printf("minute  average  median\n");
+    for (int i = 0; i < POINTS; i++) {
+        printf("%6d  %7.3f  %6.3f\n", 2 * i + 2, averages[i], medians[i]);
+    }
+    printf("%" PRIu64 " readings scanned\n", count);
+    printf("a step of 0 is refused with %" PRIu64 "\n", run(AVG, 0.0, 0, averages, &count, &index));
+    return 0;
+}

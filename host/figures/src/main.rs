@@ -1,0 +1,91 @@
+//! The command `figures`: figures from files of readings.
+
+mod answer;
+mod arguments;
+mod columns;
+mod demo;
+mod explain;
+mod failure;
+mod jobs;
+mod list;
+mod options;
+mod output;
+mod plot;
+mod progress;
+mod read;
+mod series;
+mod time;
+mod write;
+
+use std::env;
+use std::process::ExitCode;
+use std::time::{Duration, Instant};
+
+use answer::Answer;
+use arguments::{Command, HELP};
+use failure::Failure;
+use options::Options;
+use progress::Progress;
+
+fn main() -> ExitCode {
+    let arguments: Result<Vec<String>, _> =
+        env::args_os().skip(1).map(|argument| argument.into_string()).collect();
+    let command = match arguments {
+        Ok(arguments) => arguments::parse(arguments.into_iter()),
+        Err(other) => Err(Failure::Usage(format!("expected UTF-8 text, found {other:?}"))),
+    };
+    match command.and_then(run) {
+        Ok(()) => ExitCode::SUCCESS,
+        Err(failure) => {
+            eprintln!("figures: {failure}");
+            failure.status()
+        }
+    }
+}
+
+fn run(command: Command) -> Result<(), Failure> {
+    match command {
+        Command::Figures(options) => figures(&options),
+        Command::Explain(options, at) => explain(&options, at),
+        Command::List => output::text(&list::text()),
+        Command::Demo(plot) => demo::run(&plot),
+        Command::Help => output::text(HELP),
+        Command::Version => output::text(concat!("figures ", env!("CARGO_PKG_VERSION"), "\n")),
+    }
+}
+
+fn figures(options: &Options) -> Result<(), Failure> {
+    let (answers, reading) =
+        Progress::default().shown(|progress| answer::all(options, progress))?;
+    let begin = Instant::now();
+    if let Some(path) = &options.plot {
+        plot::write(path, &[(&answers, options)])?;
+    }
+    write::figures(&answers, options)?;
+    if options.stats {
+        stats(&answers, reading, begin.elapsed());
+    }
+    Ok(())
+}
+
+fn explain(options: &Options, at: i64) -> Result<(), Failure> {
+    let progress = Progress::default();
+    let mut texts = vec![];
+    for file in &options.files {
+        for series in read::file(file, &progress)? {
+            texts.push(explain::text(&series, options, at)?);
+        }
+    }
+    output::text(&texts.join("\n"))
+}
+
+/// Sizes and times on standard error; with several jobs, times are summed over them.
+fn stats(answers: &[Answer], reading: Duration, writing: Duration) {
+    let readings: usize = answers.iter().map(|answer| answer.readings).sum();
+    let figures: usize = answers.iter().map(|answer| answer.figures.len()).sum();
+    let count: u64 = answers.iter().map(|answer| answer.count).sum();
+    let core: Duration = answers.iter().map(|answer| answer.core).sum();
+    let [reading, core, writing] = [reading, core, writing].map(|time| time.as_secs_f64());
+    eprintln!("{} series, {readings} readings, {figures} figures, {count} scanned", answers.len());
+    eprintln!("reading {reading:.3} s, core {core:.3} s, writing {writing:.3} s");
+}

@@ -1,0 +1,141 @@
+//! Readings, gaps and figures inside the panels.
+
+use std::fmt::Write;
+use std::ops::Range;
+
+use super::axis::Axis;
+use super::{LEFT, Picture, RIGHT};
+
+/// Up to so many readings or figures are drawn one by one.
+pub const SINGLE: usize = 400;
+
+impl Picture<'_> {
+    /// The readings that are shown.
+    pub fn shown(&self) -> Range<usize> {
+        let times = &self.answer.series.times;
+        let first = times.partition_point(|time| *time < self.low);
+        first..times.partition_point(|time| *time <= self.high)
+    }
+
+    /// Whether the next reading is missing for long: twice the reach.
+    fn silent(&self, place: usize) -> bool {
+        let times = &self.answer.series.times;
+        times[place + 1] - times[place] > 2 * self.answer.settled.reach
+    }
+
+    /// The place of a time, inside the frame.
+    fn inside(&self, time: i64) -> f64 {
+        self.x.place(time as f64).clamp(LEFT, RIGHT)
+    }
+
+    /// Shades the gaps between readings, also with one that is not shown.
+    pub fn gaps(&mut self, panels: [(f64, f64); 2]) {
+        let times = &self.answer.series.times;
+        let shown = self.shown();
+        for place in shown.start.saturating_sub(1)..shown.end.min(times.len().saturating_sub(1)) {
+            let (from, to) = (self.inside(times[place]), self.inside(times[place + 1]));
+            let width = ((to - from) * 10.0).round() / 10.0;
+            if width < 1.0 || !self.silent(place) {
+                continue;
+            }
+            for (top, bottom) in panels {
+                let height = bottom - top;
+                self.put(format_args!(
+                    "<rect class=\"gap\" x=\"{from}\" y=\"{top}\" width=\"{width}\" height=\"{height}\"/>"
+                ));
+            }
+            if width > 30.0 {
+                let attributes = "text-anchor=\"middle\" class=\"note\"";
+                self.text((from + to) / 2.0, panels[0].0 + 16.0, attributes, "gap");
+            }
+        }
+    }
+
+    /// A line through the readings, broken at gaps. Few readings have a dot each.
+    pub fn readings(&mut self, y: &Axis) {
+        let shown = self.shown();
+        let (times, values) = (&self.answer.series.times, &self.answer.series.values);
+        let time = |place: usize| times[place];
+        let path = self.path(y, shown.clone(), time, values, |place| self.silent(place));
+        self.put(format_args!("<path class=\"line\" d=\"{path}\"/>"));
+        let single = shown.len() <= SINGLE;
+        for place in shown.filter(|_| single) {
+            let (x, y) = (self.x.place(times[place] as f64), y.place(values[place]));
+            self.put(format_args!("<circle class=\"dot\" cx=\"{x}\" cy=\"{y}\" r=\"1.8\"/>"));
+        }
+    }
+
+    /// Each figure as a bar along its window, with a dot at its output time; many figures as a
+    /// line. Where there is no figure a tick stands at the bottom.
+    pub fn figures(&mut self, y: &Axis, bottom: f64) {
+        let answer = self.answer;
+        let (figures, window) = (&answer.figures, answer.settled.window);
+        let missing = |place: usize| !figures[place].is_finite();
+        let time = |place: usize| answer.time(place);
+        let ticks = (0..figures.len()).filter(|place| missing(*place));
+        let mut ticks: Vec<f64> = ticks.map(|place| self.inside(time(place)).round()).collect();
+        ticks.dedup();
+        let ticks: String = ticks.iter().map(|x| format!("M{x} {}v-6", bottom - 1.0)).collect();
+        self.put(format_args!("<path class=\"none\" d=\"{ticks}\"/>"));
+        if figures.len() > SINGLE {
+            let breaks = |place| missing(place) || missing(place + 1);
+            let path = self.path(y, 0..figures.len(), time, figures, breaks);
+            return self.put(format_args!("<path class=\"figures\" d=\"{path}\"/>"));
+        }
+        for place in (0..figures.len()).filter(|place| !missing(*place)) {
+            let (from, to) = (self.inside(time(place) - window), self.inside(time(place)));
+            let height = y.place(figures[place]);
+            self.put(format_args!("<path class=\"window\" d=\"M{from} {height}H{to}\"/>"));
+            self.put(format_args!(
+                "<circle class=\"figure\" cx=\"{to}\" cy=\"{height}\" r=\"2.6\"/>"
+            ));
+        }
+    }
+
+    /// A line through numbers, broken after some; of those that share a column of the picture the
+    /// first, the least, the greatest and the last are drawn.
+    fn path(
+        &self,
+        y: &Axis,
+        places: Range<usize>,
+        time: impl Fn(usize) -> i64,
+        numbers: &[f64],
+        breaks: impl Fn(usize) -> bool,
+    ) -> String {
+        let x = |place| self.x.place(time(place) as f64);
+        let mut path = String::new();
+        let mut column: Vec<usize> = vec![];
+        let mut letter = 'M';
+        for place in places.clone() {
+            column.push(place);
+            let ends = place + 1 == places.end || breaks(place);
+            if !ends && x(place + 1).floor() == x(place).floor() {
+                continue;
+            }
+            for chosen in outline(&column, numbers) {
+                let (x, y) = (x(chosen), y.place(numbers[chosen]));
+                write!(path, "{letter}{x} {y}").expect("a string");
+                letter = 'L';
+            }
+            column.clear();
+            if ends {
+                // A stretch of one number is a dot: a line of no length with round ends.
+                path += "h0";
+                letter = 'M';
+            }
+        }
+        path
+    }
+}
+
+/// Of the numbers of a column the first, the least, the greatest and the last, in order.
+fn outline(column: &[usize], numbers: &[f64]) -> Vec<usize> {
+    let finite = || column.iter().filter(|place| numbers[**place].is_finite());
+    let by_number = |a: &&usize, b: &&usize| numbers[**a].total_cmp(&numbers[**b]);
+    let ends = [finite().next(), finite().next_back()];
+    let extremes = [finite().min_by(by_number), finite().max_by(by_number)];
+    let mut chosen: Vec<usize> = ends.into_iter().chain(extremes).flatten().copied().collect();
+    chosen.sort_unstable();
+    chosen.dedup();
+    chosen
+}

@@ -1,0 +1,51 @@
+//! A workspace keeps its memory from call to call, and nothing else.
+
+use harzoulin::{Rollup, Settings, Step, Workspace};
+
+/// A series of some readings, one a minute, and a grid of as many output times.
+fn series(readings: i64) -> (Vec<i64>, Vec<f64>, Settings) {
+    let times: Vec<i64> = (0..readings).map(|reading| reading * 60_000).collect();
+    let values = (0..readings).map(|reading| (reading * 7919 % 1009) as f64).collect();
+    let end = (readings - 1).max(0) * 60_000;
+    (times, values, Settings { end, step: 60_000, window: 600_000, ..Settings::default() })
+}
+
+#[test]
+fn shorter_series_need_no_memory() {
+    let mut workspace = Workspace::new();
+    let mut places = |readings| {
+        let (times, values, settings) = series(readings);
+        let run = workspace.run(&times, &values, Step::Resets, Rollup::Median, &settings).unwrap();
+        (run.values.as_ptr(), run.prepared.as_ptr())
+    };
+    let longest = places(1000);
+    for readings in [1, 999, 0, 500, 1000] {
+        assert_eq!(places(readings), longest);
+    }
+}
+
+#[test]
+fn a_used_workspace_answers_as_a_new_one() {
+    let mut used = Workspace::new();
+    for readings in [300, 7, 0, 1, 299, 2] {
+        let (times, values, settings) = series(readings);
+        for pre in Step::ALL {
+            let mut new = Workspace::new();
+            let [used, new] = [&mut used, &mut new].map(|workspace| {
+                let run = workspace.run(&times, &values, pre, Rollup::Quantile(0.9), &settings);
+                let run = run.unwrap();
+                let bits =
+                    |numbers: &[f64]| numbers.iter().map(|n| n.to_bits()).collect::<Vec<_>>();
+                (bits(run.values), bits(run.prepared), run.count)
+            });
+            assert_eq!(used, new);
+        }
+    }
+}
+
+/// A workspace may be moved to another thread.
+#[test]
+fn workspaces_are_sent() {
+    fn sent<T: Send>(_: T) {}
+    sent(Workspace::new());
+}
