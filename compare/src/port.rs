@@ -163,7 +163,7 @@ fn settle(case: &Case, o: &mut Outcome) -> u64 {
     panic!("the archive does not have harzoulin_settle")
 }
 
-fn run(case: &Case, o: &mut Outcome) -> u64 {
+pub fn run(case: &Case, o: &mut Outcome) -> u64 {
     let s = &case.settings;
     #[cfg(port_run)]
     return unsafe {
