@@ -39,7 +39,8 @@ uint64_t harzoulin_settle(const int64_t *timestamps, size_t timestamps_len, int6
 
 /* Writes one value per output time to the first entries of dst_values, and nothing past them, and
  * sets *count, on acceptance only, to the number of samples counted. prepared and work are room
- * that the call writes: prepared holds the prepared values afterwards, work +0.0.
+ * that the call writes: afterwards the first values_len entries of prepared are the prepared values
+ * and the first 2 * values_len of work are +0.0; what lies past them is untouched.
  * rollup: 0 to 47, the place in docs/ROLLUPS.md; first and second are the parameters of quantile
  * (45), predict_linear (46) and holt_winters (47), which no other rollup reads. A number that names
  * no step or no rollup is refused 28, before all else.
