@@ -77,17 +77,7 @@ pub fn run(
     else {
         return refused(settled);
     };
-    let room = execute::check_slices(
-        values.len(),
-        points,
-        dst_values.len(),
-        prepared.len(),
-        work.len(),
-    );
-    if let Checked::Refused(r) = room {
-        return Figures::Refused(r);
-    }
-    Figures::Counted(execute::execute(
+    execute::execute_within(
         timestamps,
         values,
         pre,
@@ -101,7 +91,7 @@ pub fn run(
         dst_values,
         prepared,
         work,
-    ))
+    )
 }
 
 // The figures over the grid of sc, with the window and the reach that it is given.
@@ -135,30 +125,19 @@ pub fn settled_run(
     if let Checked::Refused(r) = settings {
         return Figures::Refused(r);
     }
-    let n = points(sc.start, sc.end, sc.step);
-    let room = execute::check_slices(
-        values.len(),
-        n,
-        dst_values.len(),
-        prepared.len(),
-        work.len(),
-    );
-    if let Checked::Refused(r) = room {
-        return Figures::Refused(r);
-    }
-    Figures::Counted(execute::execute(
+    execute::execute_within(
         timestamps,
         values,
         pre,
         handler,
         sc.start,
         sc.step,
-        n,
+        points(sc.start, sc.end, sc.step),
         sc.window,
         sc.reach,
         sc.samples_scanned_per_call,
         dst_values,
         prepared,
         work,
-    ))
+    )
 }

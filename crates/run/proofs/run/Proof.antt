@@ -2,28 +2,23 @@
 -- Assumes nothing.
 use mathlib.Core.Path.{_≡_, refl, sym, ap, _∙_}
 use mathlib.Core.List.{List, [], _∷_}
-use Prim.Native.Nat.{_≤_}
-use native.Mathlib.Omega.{arith}
 use borrow.Author.Needs.{needs}
 use lib.IntN.{ℤ, pos}
-use lib.ListN.{length}
 use mir.Syntax.{w64}
 use mir.Val.{ofZ, toZ}
 use mir.Facts.{toZ-ofZ}
-use Rattle.config.specs.Rows.{settingsChecked, settledSettings}
+use Rattle.config.specs.Rows.{settingsChecked}
 use Rattle.config.specs.declared.settings.RollupConfig.{RollupConfig}
-use Rattle.config.specs.Settle.{settledReach, settledWindow, unlessRefused}
-use Rattle.config.specs.declared.settle.Settled.the-variants.{Accepted as SettledTo, Refused as NotSettled}
+use Rattle.config.specs.Settle.{settledReach, settledWindow}
 use Rattle.config.proofs.Passed.{settings-passed}
 use Rattle.series.specs.Rows.{row1, row5, seriesChecked, timesChecked}
-use Rattle.series.specs.declared.refusal.Checked.the-variants.{Accepted, Refused}
-use Rattle.series.proofs.Accepted.{accepted-series, all-accept}
+use Rattle.series.specs.declared.refusal.Checked.the-variants.{Accepted}
+use Rattle.series.proofs.Accepted.{all-accept}
 use Rattle.times.specs.Grid.{gridSize}
 use Rattle.times.proofs.Milli.{within-fits}
-use Rattle.run.specs.declared.Figures.the-variants.{Counted}
 use Rattle.run.specs.Place.{Settled}
-use Rattle.run.specs.Run.{Plan, answersOf, countedOf, over, refusalOf, runChecked, slicesChecked}
-use Rattle.run.proofs.Passed.{rooms, run-goes-by, same-plan, same-settled, settling-accepted, settling-refused}
+use Rattle.run.specs.Run.{lent, refusalOf, runChecked}
+use Rattle.run.proofs.Passed.{leaves-same, run-goes-by, same-executed, same-settled, settling-accepted, settling-refused}
 use Rattle.run.proofs.run.Statement.{statement}
 use Rattle.run.proofs.run.Tie as tie
 
@@ -84,67 +79,33 @@ module _ (c : tie.After-known-told2) where
       × (c .before .settled .given .0 .1 .1 .0 ≡ gridSize (rc .start) (rc .end) (rc .step))
   settled-ok = settling-accepted (settingsChecked rc) _ _ _ _ _ _ (sym (c .before .before .before .settle-settings .ensures) ∙ c .before .settled .given .1)
 
-check-slices-requires : tie.Need-check-slices-requires
-check-slices-requires c κs =
-    let a = accepted-series _ _ (series-ok (c .before .before .before .before)) in
-    omega (arith, a .same-length, a .times .few)
-
--- rows 12 to 14, of the grid's size
-slices-are : (c : tie.After-check-slices) → c .check-slices .result ≡ slicesChecked (length (start (c .before) .args .values .now)) (gridSize (rc (c .before) .start) (rc (c .before) .end) (rc (c .before) .step))
-    (length (start (c .before) .args .dst-values .now)) (length (start (c .before) .args .prepared .now)) (length (start (c .before) .args .work .now))
-slices-are c = rw (settled-ok (c .before) .3) at (c .check-slices .ensures)
-
-enum-known-room : tie.Need-enum-known-room
-enum-known-room c = search needs
-
-returns-3 : tie.Need-returns-3
-unfolding runChecked
-returns-3 c =
-    let s = c .before .before .before in
-    let k = s .before in
-    rw (series-ok (k .before .before .before .before), settled-ok k .0, ← slices-are s, c .before .room .given .1) (refl, (refl, (refl, refl)))
-
-enum-told-3 : tie.Need-enum-told-3
-enum-told-3 c = search needs
-
 abbrev back : ℤ → ℤ
 back z = toZ w64 (ofZ w64 z)
 
--- an accepted call: what it goes by, of the settings themselves and not of their bits
-module _ (c : tie.After-enum-told3) where
-  abbrev k : tie.After-known-told2
-  k = c .before .before .before
+-- accepted settings, of the settings themselves and not of their bits
+module _ (c : tie.After-known-told2) where
+  series-accepted : seriesChecked (us c) (start c .args .values .now) ≡ Accepted
+  series-accepted = series-ok (c .before .before .before .before)
 
-  series-accepted : seriesChecked (us k) (start k .args .values .now) ≡ Accepted
-  series-accepted = series-ok (k .before .before .before .before)
+  by : Settled (rc c .start) (rc c .step) (gridSize (rc c .start) (rc c .end) (rc c .step)) (pos (settledWindow (us c) (rc c))) (pos (settledReach (us c) (rc c))) (rc c .«samples_scanned_per_call»)
+  by = run-goes-by (us c) (rc c) (times-ok _ _ series-accepted) (settled-ok c .0)
 
-  slices-accepted : slicesChecked (length (start k .args .values .now)) (gridSize (rc k .start) (rc k .end) (rc k .step)) (length (start k .args .dst-values .now)) (length (start k .args .prepared .now)) (length (start k .args .work .now)) ≡ Accepted
-  slices-accepted = sym (slices-are (c .before .before)) ∙ c .enum-told3 .given .1
+  first : back (rc c .start) ≡ rc c .start
+  first = toZ-ofZ (within-fits tt (settings-passed (rc c) (settled-ok c .0) .spans .start-within))
 
-  by : Settled (rc k .start) (rc k .step) (gridSize (rc k .start) (rc k .end) (rc k .step)) (pos (settledWindow (us k) (rc k))) (pos (settledReach (us k) (rc k))) (rc k .«samples_scanned_per_call»)
-  by = run-goes-by (us k) (rc k) (times-ok _ _ series-accepted) (settled-ok k .0)
+  apart : back (rc c .step) ≡ rc c .step
+  apart = toZ-ofZ (within-fits tt (settings-passed (rc c) (settled-ok c .0) .spans .step-within))
 
-  first : back (rc k .start) ≡ rc k .start
-  first = toZ-ofZ (within-fits tt (settings-passed (rc k) (settled-ok k .0) .spans .start-within))
+  window-is : back (c .before .settled .given .0 .0) ≡ pos (settledWindow (us c) (rc c))
+  window-is = ap back (settled-ok c .1) ∙ toZ-ofZ (within-fits tt (by .window))
 
-  apart : back (rc k .step) ≡ rc k .step
-  apart = toZ-ofZ (within-fits tt (settings-passed (rc k) (settled-ok k .0) .spans .step-within))
+  reach-is : back (c .before .settled .given .0 .1 .0) ≡ pos (settledReach (us c) (rc c))
+  reach-is = ap back (settled-ok c .2) ∙ toZ-ofZ (within-fits tt (by .reach))
 
-  window-is : back (k .before .settled .given .0 .0) ≡ pos (settledWindow (us k) (rc k))
-  window-is = ap back (settled-ok k .1) ∙ toZ-ofZ (within-fits tt (by .window))
-
-  reach-is : back (k .before .settled .given .0 .1 .0) ≡ pos (settledReach (us k) (rc k))
-  reach-is = ap back (settled-ok k .2) ∙ toZ-ofZ (within-fits tt (by .reach))
-
-execute-requires : tie.Need-execute-requires
-execute-requires c κs =
-    let e = c .before .before .before .before .before in
-    let q = k e in
-    let room = rooms _ _ _ _ _ (slices-accepted e) in
-    let points : q .before .settled .given .0 .1 .1 .0 ≤ length (start q .args .dst-values .now) = omega (arith, settled-ok q .3, room .0) in (
-      record { series = series-accepted e; output-room = points; prepared-room = room .1; work-room = room .2 },
-      same-settled (first e) (apart e) (settled-ok q .3) (window-is e) (reach-is e) (rc q .«samples_scanned_per_call») (by e),
-    )
+execute-within-requires : tie.Need-execute-within-requires
+execute-within-requires c κs =
+    let k = c .before .before .before .before .before in
+    (series-accepted k, same-settled (first k) (apart k) (settled-ok k .3) (window-is k) (reach-is k) (rc k .«samples_scanned_per_call») (by k))
 
 same-length : tie.Need-same-length
 same-length c = search needs
@@ -155,23 +116,15 @@ same-length-2 c = search needs
 same-length-3 : tie.Need-same-length-3
 same-length-3 c = search needs
 
-returns-4 : tie.Need-returns-4
+returns-3 : tie.Need-returns-3
 unfolding runChecked
-returns-4 c =
+returns-3 c =
     let x = c .before .before .before .before .before .before in
-    let e = x .before .before .before .before .before .before in
-    let q = k e in
-    let done = x .execute .ensures in
-    let plan = same-plan (first e) (apart e) (settled-ok q .3) (window-is e) (reach-is e) (rc q .«samples_scanned_per_call») (us q) (start q .args .values .now) (start q .args .pre) (start q .args .handler) in
-    rw (series-accepted e, settled-ok q .0, slices-accepted e) (
-      ap Counted (done .0 ∙ ap countedOf plan),
-      (
-        done .1 .0 ∙ ap (λ (p : Plan). over (answersOf p) (start q .args .dst-values .now)) plan,
-        (done .1 .1 .0, done .1 .1 .1),
-      ),
-    )
+    let k = x .before .before .before .before .before .before in
+    let same = same-executed (first k) (apart k) (settled-ok k .3) (window-is k) (reach-is k) (rc k .«samples_scanned_per_call») (us k) (start k .args .values .now) (start k .args .pre) (start k .args .handler) (lent (start k .args .dst-values .now) (start k .args .prepared .now) (start k .args .work .now)) in
+    rw (series-accepted k, settled-ok k .0) (leaves-same (x .execute-within .ensures) same)
 
 pub run-spec : {M : Type 1} → statement M
 run-spec =
     tie.close
-    (tie.spec check-series-requires enum-known-checked returns enum-told settle-settings-requires enum-known-settled enum-told-2 refused-requires returns-2 check-slices-requires enum-known-room returns-3 enum-told-3 execute-requires same-length same-length-2 same-length-3 returns-4)
+    (tie.spec check-series-requires enum-known-checked returns enum-told settle-settings-requires enum-known-settled enum-told-2 refused-requires returns-2 execute-within-requires same-length same-length-2 same-length-3 returns-3)
