@@ -1,7 +1,8 @@
 -- What a rollup's tests and reads of its window say of the lists in its definition.
 -- Assumes nothing.
 use Prim.Native.Nat.{ℕ, zero, suc, _+_, _-_, _≤_, _<_}
-use mathlib.Core.Bool.{Bool, true, false}
+use mathlib.Core.Bool.{Bool, true, false, cond, true≢false}
+use mathlib.Core.Logic.{_⊎_, ⊎-elim}
 use mathlib.Core.Path.{_≡_, refl, sym, _∙_, ap}
 use mathlib.Core.List.{List, [], _∷_}
 use native.Mathlib.Omega.{arith}
@@ -12,8 +13,8 @@ use lib.Dec.{eqb}
 use lib.IntN.{ℤ}
 use lib.Signed.{ltZ}
 use borrow.Author.Tests.{eq-eqb, ne-eqb}
-use lib.Ieee.{Float, nan, binary64, ofBits}
-use Rattle.rollup.specs.Window.{floats, isEmpty, firstOr, lastOr, firstOf, lastOf, upToLast}
+use lib.Ieee.{Float, nan, binary64, isNan, ofBits}
+use Rattle.rollup.specs.Window.{floats, isEmpty, firstOr, lastOr, firstOf, lastOf, seeded, upToLast}
 use Rattle.rollup.specs.Candlestick.{candlestick}
 
 pub length-floats : (l : List ℕ) → length (floats l) ≡ length l
@@ -120,3 +121,16 @@ first-value l h = rw (first-at nan (floats l)) (getD-floats l 0 nan (omega arith
 
 pub last-value : (l : List ℕ) → (length l ≡ 0 → ⊥) → lastOf (floats l) ≡ ofBits binary64 (getD l (length l - 1) 0)
 last-value l h = rw (last-at nan (floats l), length-floats l) (getD-floats l (length l - 1) nan (omega arith))
+
+-- a loop from the seed over the values after it, where there is a predecessor or a value
+pub from-seed : (f : Float → List Float → Float) (p : Float) (l : List ℕ) {s : Float} {r : List ℕ} → (isNan p ≡ true → length l ≡ 0 → ⊥) → s ≡ cond (isNan p) (firstOf (floats l)) p → r ≡ cond (isNan p) (drop 1 l) l
+    → f s (floats r) ≡ seeded f p (floats l)
+from-seed f p l {s} {r} h e d = go (isNan p) refl
+  where
+    go : (b : Bool) → isNan p ≡ b → f s (floats r) ≡ seeded f p (floats l)
+    go true n = rw (e, d, n, some-values l (h n), rest-values 1 l)
+    go false n = rw (e, d, n)
+
+-- one of the two is there, where the tests for neither did not both hold
+pub not-neither : (p : Float) {n : ℕ} {nan? : Bool} → nan? ≡ isNan p → ((nan? ≡ true) × (n ≡ 0 → ⊥)) ⊎ (nan? ≡ false) → isNan p ≡ true → n ≡ 0 → ⊥
+not-neither p e = ⊎-elim (λ w q. w .1) (λ w q. absurd (true≢false (sym q ∙ sym e ∙ w)))

@@ -14,8 +14,9 @@ use crate::types::value_at;
 use math::regression::Line;
 ghost use mathlib.Core.Path.{_≡_};
 ghost use Prim.Native.Nat.{_-_, _*_, _≤_, _<_};
-ghost use lib.ListN.{length};
-ghost use lib.Ieee.{ne};
+ghost use mathlib.Core.Bool.{cond};
+ghost use lib.ListN.{drop, length};
+ghost use lib.Ieee.{isNan, ne};
 ghost use Rattle.math.specs.Deviation.{stddevOf, stdvarOf};
 ghost use Rattle.math.specs.Mode.{modeOf};
 ghost use Rattle.math.specs.Quantile.{madOf, medianOf};
@@ -260,7 +261,20 @@ pub fn rollup_range(values: &[u64]) -> f64
     if values.len() == 0 {
         return nan();
     }
-    extreme(false, first(values), values) - extreme(true, first(values), values)
+    let mut max = first(values);
+    let mut min = max;
+    let mut i = 0;
+    while i < values.len() {
+        let v = value_at(values, i);
+        if is_beyond(false, max, v) {
+            max = v;
+        }
+        if is_beyond(true, min, v) {
+            min = v;
+        }
+        i += 1;
+    }
+    max - min
 }
 
 // 1.0 for an empty window.
@@ -447,6 +461,26 @@ fn count_steps(down: bool, prev_value: f64, values: &[u64]) -> f64
     ieee::of_count(n)
 }
 
+// Where the steps of a window begin: at the predecessor, or else at the first value.
+fn seed(prev_value: f64, values: &[u64]) -> f64
+    ensures { λ r. ⌜ r ≡ cond (isNan «prev_value») (firstOf (floats (now (values .entry)))) «prev_value» ⌝ }
+{
+    if ieee::is_nan(prev_value) {
+        return first(values);
+    }
+    prev_value
+}
+
+// The values that the steps lead to.
+fn after_seed(prev_value: f64, values: &[u64]) -> &[u64]
+    ensures { λ r. ⌜ now r ≡ cond (isNan «prev_value») (drop 1 (now (values .entry))) (now (values .entry)) ⌝ }
+{
+    if ieee::is_nan(prev_value) {
+        return rest(values);
+    }
+    values
+}
+
 // The steps that go the given way, from the predecessor, or else from the first value, on.
 fn steps_over(down: bool, rfa: RollupFuncArg, values: &[u64]) -> f64
     ensures { λ r. ⌜ r ≡ stepsOf down (rfa .«prev_value») (floats (now (values .entry))) ⌝ }
@@ -455,9 +489,12 @@ fn steps_over(down: bool, rfa: RollupFuncArg, values: &[u64]) -> f64
         if values.len() == 0 {
             return nan();
         }
-        return count_steps(down, first(values), rest(values));
     }
-    count_steps(down, rfa.prev_value, values)
+    count_steps(
+        down,
+        seed(rfa.prev_value, values),
+        after_seed(rfa.prev_value, values),
+    )
 }
 
 pub fn rollup_increases(rfa: RollupFuncArg, values: &[u64]) -> f64
@@ -514,9 +551,12 @@ fn slide_from_predecessor(down: bool, rfa: RollupFuncArg, values: &[u64]) -> f64
         if values.len() == 0 {
             return nan();
         }
-        return slide_over(down, first(values), rest(values));
     }
-    slide_over(down, rfa.prev_value, values)
+    slide_over(
+        down,
+        seed(rfa.prev_value, values),
+        after_seed(rfa.prev_value, values),
+    )
 }
 
 pub fn rollup_ascent_over_time(rfa: RollupFuncArg, values: &[u64]) -> f64

@@ -1,8 +1,10 @@
 -- `rollup::rollup_fns::slide_from_predecessor` meets its contract: the predecessor, or else the first value, is where it starts.
 -- Assumes nothing.
+use mathlib.Core.Logic.{⊎-elim, inl, inr}
+use mathlib.Core.Path.{_∙_}
 use borrow.Author.Needs.{needs}
-use Rattle.rollup.specs.RollupFns.{slideOf}
-use Rattle.rollup.proofs.Window.{no-values, some-values, rest-values}
+use Rattle.rollup.specs.RollupFns.{slideFrom, slideOf}
+use Rattle.rollup.proofs.Window.{from-seed, no-values, not-neither}
 use Rattle.rollup.proofs.rollup_fns.slide_from_predecessor.Statement.{statement}
 use Rattle.rollup.proofs.rollup_fns.slide_from_predecessor.Tie as tie
 
@@ -13,12 +15,10 @@ returns c = rw (← c .before .before .before .is-nan .ensures, c .before .befor
 returns-2 : tie.Need-returns-2
 unfolding slideOf
 returns-2 c =
-    rw (← c .before .before .before .before .before .is-nan .ensures, c .before .before .before .before .if1 .taken, some-values _ (c .before .before .before .if2 .left), ← c .before .before .first .ensures, rest-values, ← c .before .rest .ensures)
-    (c .slide-over .ensures)
-
-returns-3 : tie.Need-returns-3
-unfolding slideOf
-returns-3 c = rw (← c .before .before .is-nan .ensures, c .before .if1 .left) (c .slide-over2 .ensures)
+    let j = c .before .before .before in
+    let s = j .before .before .before in
+    let some = not-neither (s .args .rfa .«prev_value») (j .before .is-nan .ensures) (⊎-elim (λ w. inl (w .0 .taken, w .1 .left)) (λ w. inr (w .left)) (j .if1 .came)) in
+    c .slide-over .ensures ∙ from-seed (slideFrom (s .args .down)) (s .args .rfa .«prev_value») (s .args .values .now) some (c .before .before .seed .ensures) (c .before .after-seed .ensures)
 
 pub slide-from-predecessor-spec : {M : Type 1} → statement M
-slide-from-predecessor-spec = tie.close (tie.spec (λ c κs. search needs) (λ c κs. search needs) returns (λ c κs. search needs) (λ c κs. search needs) (λ c κs. search needs) returns-2 (λ c κs. search needs) returns-3)
+slide-from-predecessor-spec = tie.close (tie.spec (λ c κs. search needs) (λ c κs. search needs) returns (λ c κs. search needs) (λ c κs. search needs) (λ c κs. search needs) returns-2)
