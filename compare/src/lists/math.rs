@@ -1,4 +1,4 @@
-//! The functions of common/math.rs, in three lists.
+//! The functions of common/math.rs, in two lists.
 
 use original::exposed;
 
@@ -9,9 +9,6 @@ use crate::words::{all_bits, bits, times, List};
 pub const CASES: &str = "op, n, n values, parameter, result; op 0 quantile (phi), 1 median, 2 mad, \
     3 stdvar, 4 stddev, 5 mode_no_nans (predecessor), 7 are_const_values (0 or 1); only 0 and 5 have \
     a parameter";
-
-pub const SORT_CASES: &str = "op, n, n values, the n values sorted; op 8 by partial_cmp, stable, \
-    9 by total_cmp";
 
 pub const REGRESSION_CASES: &str =
     "op 6, n, n values, intercept time, n times, results v and k of \
@@ -57,21 +54,6 @@ fn predecessor(rng: &mut Rng, values: &[f64]) -> f64 {
         0 => f64::NAN,
         1 if !values.is_empty() => rng.pick(values),
         _ => floats::finite(rng),
-    }
-}
-
-pub fn make_sort(rng: &mut Rng, list: &mut List) {
-    for op in [8, 9] {
-        for _ in 0..2500 {
-            let n = floats::short(rng);
-            let values = floats::window(rng, n);
-            let mut sorted = values.clone();
-            match op {
-                8 => sorted.sort_by(|a, b| a.partial_cmp(b).unwrap()),
-                _ => sorted.sort_by(|a, b| a.total_cmp(b)),
-            }
-            list.case(&[vec![op, n as u64], all_bits(&values), all_bits(&sorted)].concat());
-        }
     }
 }
 

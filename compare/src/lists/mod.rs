@@ -7,6 +7,7 @@ mod rollup;
 mod run;
 mod search;
 mod settle;
+mod sort;
 
 use original::exposed::Settings;
 
@@ -23,7 +24,7 @@ pub struct Maker {
 pub const MAKERS: [Maker; 9] = [
     Maker { name: "ieee", cases: ieee::CASES, make: ieee::make },
     Maker { name: "math", cases: math::CASES, make: math::make },
-    Maker { name: "sort", cases: math::SORT_CASES, make: math::make_sort },
+    Maker { name: "sort", cases: sort::CASES, make: sort::make },
     Maker { name: "regression", cases: math::REGRESSION_CASES, make: math::make_regression },
     Maker { name: "prepare", cases: prepare::CASES, make: prepare::make },
     Maker { name: "search", cases: search::CASES, make: search::make },

@@ -12,7 +12,7 @@ ghost use Rattle.math.specs.Order.{Sortable, sorted};
 ghost use Rattle.math.specs.Quantile.{deviations, quantileSorted, quantileOf, medianOf, madOf};
 
 // Copies the values that are no NaN to the front of work, in order, and returns how many there are.
-fn keep(values: &[u64], work: &mut [f64]) -> usize
+pub fn keep(values: &[u64], work: &mut [f64]) -> usize
     requires { ⌜ length (now values) ≤ length (now work) ⌝ }
     ensures { λ r. ⌜ (r ≡ length (kept (floats (now (values .entry))))) ⌝ }
     ensures { λ r. ⌜ now (work .exit) ≡ kept (floats (now (values .entry))) ++ drop r (now (work .entry)) ⌝ }

@@ -1,12 +1,17 @@
-// Replays the list `search`: the hinted search, the estimate, the reach of an estimate and the grid. A
-// case's first word says which, and the last ones are the Rust's answer.
+// Replays the list `search`: the hinted search, the estimate, the reach of an estimate, the grid and the
+// per-call table. A case's first word says which, and the last ones are the Rust's answer.
 use config::settings::RollupConfig;
-use config::settle::Settled;
+use harzoulin::choice::Chosen;
 use libc::STDIN_FILENO;
 use replay::Case;
 use replay::Tally;
 use series::Checked;
 use vectors::STEP;
+ghost use Prim.Native.Nat.{ℕ, _≤_, _<_};
+ghost use Rattle.times.specs.Grid.{OnGrid};
+
+// How many times of a grid the list holds; of more it holds the first and the last.
+const WHOLE: u64 = 64;
 
 // Whether the search gives the stored index. Times that the table refuses count as a difference.
 fn same_index(timestamps: &[i64], t: i64, hint: usize, stored: u64) -> bool {
@@ -26,18 +31,52 @@ fn same_estimate(timestamps: &[i64], stored: u64) -> bool {
     config::estimate::get_scrape_interval(timestamps) == stored
 }
 
-// Whether settings, settled for one reading, give the stored number of output times.
-fn same_points(rc: RollupConfig, stored: u64) -> bool {
-    let timestamps = [0i64; 1];
-    let answer = config::settle::settle(&timestamps, rc);
-    match answer {
-        Settled::Accepted {
-            window: _,
-            reach: _,
-            points,
-        } => points == stored,
-        Settled::Refused(_) => false,
+// The k-th of the times from the sixth word on.
+fn listed(text: &[u8], k: usize) -> i64
+    requires { ⌜ k < 64 ⌝ }
+{
+    vectors::signed(vectors::word(text, 5 * STEP + k * STEP))
+}
+
+// Whether the first n times of a grid are those of the list.
+fn same_times(text: &[u8], start: i64, step: i64, n: u64) -> bool
+    requires { ⌜ n ≤ 64 ⌝ ∗ ⌜ ((k : ℕ) → k < n → OnGrid start step k) ⌝ }
+{
+    let mut k: u64 = 0;
+    while k < n {
+        if times::grid::time_at(start, step, k) != listed(text, k as usize) {
+            return false;
+        }
+        k += 1;
     }
+    true
+}
+
+// Whether the first and the last of a grid's n times are those of the list.
+fn same_ends(text: &[u8], start: i64, step: i64, n: u64) -> bool
+    requires { ⌜ 0 < n ⌝ ∗ ⌜ ((k : ℕ) → k < n → OnGrid start step k) ⌝ }
+{
+    if times::grid::time_at(start, step, 0) != listed(text, 0) {
+        return false;
+    }
+    times::grid::time_at(start, step, n - 1) == listed(text, 1)
+}
+
+// Whether a grid has the stored number of times, and the times of the list. A grid that the table refuses
+// counts as a difference.
+fn same_grid(text: &[u8], rc: RollupConfig, stored: u64) -> bool {
+    let checked = config::settings::check_settings(rc);
+    if let Checked::Refused(_) = checked {
+        return false;
+    }
+    let n = times::grid::points(rc.start, rc.end, rc.step);
+    if n != stored {
+        return false;
+    }
+    if n <= WHOLE {
+        return same_times(text, rc.start, rc.step, n);
+    }
+    same_ends(text, rc.start, rc.step, n)
 }
 
 // A search, or, where it is none, an estimate: the number of times, the times, and for a search the time
@@ -85,8 +124,15 @@ fn reach(text: &[u8]) -> Case {
     }
 }
 
-// A start, an end and a step; then the number of output times, the first, which is the start, and the
-// last.
+// How many times of a grid of n times the list holds.
+fn held(n: u64) -> usize
+    ensures { λ r. ⌜ r ≤ 64 ⌝ }
+{
+    if n <= WHOLE { n as usize } else { 2 }
+}
+
+// A start, an end and a step; then the number of output times and, of 64 at most, all of them, of more the
+// first and the last.
 fn grid(text: &[u8]) -> Case {
     let rc = RollupConfig {
         start: vectors::signed(vectors::word(text, STEP)),
@@ -100,16 +146,36 @@ fn grid(text: &[u8]) -> Case {
         max_points_per_series: 0,
         samples_scanned_per_call: 0,
     };
-    let same = same_points(rc, vectors::word(text, 4 * STEP));
-    if vectors::word(text, STEP) != vectors::word(text, 5 * STEP) {
+    let n = vectors::word(text, 4 * STEP);
+    Case {
+        len: 5 * STEP + held(n) * STEP,
+        same: same_grid(text, rc, n),
+    }
+}
+
+// Whether the rollup with a number has the stored per-call number.
+fn same_scanned(number: u32, stored: u64) -> bool {
+    let chosen = harzoulin::choice::rollup_of(number, 0.0, 0.0);
+    match chosen {
+        Chosen::Rollup(handler) => {
+            rollup::handler::rollup_samples_scanned_per_call(handler) as u64 == stored
+        }
+        Chosen::None => false,
+    }
+}
+
+// A rollup's number and its per-call number.
+fn per_call(text: &[u8]) -> Case {
+    let number = vectors::word(text, STEP);
+    if number >= 48 {
         return Case {
-            len: 7 * STEP,
+            len: 0,
             same: false,
         };
     }
     Case {
-        len: 7 * STEP,
-        same,
+        len: 3 * STEP,
+        same: same_scanned(number as u32, vectors::word(text, 2 * STEP)),
     }
 }
 
@@ -120,6 +186,7 @@ fn case(text: &[u8]) -> Case {
         1 => timed(text, false),
         2 => reach(text),
         3 => grid(text),
+        4 => per_call(text),
         _ => Case {
             len: 0,
             same: false,

@@ -1,5 +1,5 @@
-//! Runs of the original Rust, stored in run.txt: the list that `vectors run` of compare/ writes,
-//! every eleventh case. Its first line says what a case holds.
+//! Runs of the original Rust, stored in run.txt: of the list that `vectors run` of compare/ writes,
+//! every eleventh of the first 450 cases. Its first line says what a case holds.
 
 use harzoulin::{ROLLUPS, Rollup, Settings, Settled, Step, Workspace, settle};
 
