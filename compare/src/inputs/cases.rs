@@ -75,7 +75,7 @@ fn settled(rng: &mut Rng, case: &mut Case) {
 }
 
 /// A slice filled with rubbish, of this length or a little longer.
-fn slice(rng: &mut Rng, length: usize) -> Vec<u64> {
+pub fn slice(rng: &mut Rng, length: usize) -> Vec<u64> {
     let longer = rng.pick(&[0, 0, 1, 7]);
     (0..length + longer).map(|_| rng.bits()).collect()
 }
