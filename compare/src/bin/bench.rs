@@ -8,9 +8,9 @@ use std::process::exit;
 use std::time::Instant;
 
 use compare::call::{Call, Case, Outcome};
+use compare::inputs::series::counter;
 use compare::judge::{self, STEPS};
 use compare::port;
-use compare::rng::Rng;
 use original::exposed::{self, Rollup, Settings, ROLLUPS};
 
 const ROUNDS: usize = 7;
@@ -122,19 +122,6 @@ fn run(readings: usize) {
 
 fn best(mut round: impl FnMut() -> f64) -> f64 {
     (0..ROUNDS).map(|_| round()).fold(f64::INFINITY, f64::min)
-}
-
-/// A counter read once a minute, with jitter, gaps and restarts.
-fn counter(readings: usize) -> (Vec<i64>, Vec<f64>) {
-    let mut rng = Rng::new(1);
-    let (mut time, mut count) = (0, 0.0);
-    let pairs = (0..readings).map(|_| {
-        time += 60_000 + rng.between(-500, 500);
-        time += if rng.once_in(10_000) { 3_600_000 } else { 0 };
-        count = if rng.once_in(20_000) { 0.0 } else { count + rng.between(0, 40) as f64 };
-        (time, count)
-    });
-    pairs.unzip()
 }
 
 fn usage() -> ! {
