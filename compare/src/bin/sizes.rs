@@ -5,6 +5,7 @@
 use std::process::exit;
 
 use compare::call::{Call, Case, UNSET};
+use compare::inputs::cases::average;
 use compare::inputs::series::counter;
 use compare::judge::{self, STEPS};
 use compare::{cuts, oracle, port, rows};
@@ -25,7 +26,7 @@ fn main() {
     }
     let mut tally = Tally::default();
     let years = counter(YEARS);
-    let mut days = case(&years, Settings { step: DAY, window: DAY, ..Settings::default() });
+    let mut days = average(&years, Settings { step: DAY, window: DAY, ..Settings::default() });
     days.settings.end = *years.0.last().unwrap();
     days.dst_values = vec![UNSET; rows::points(&days) as usize + 1];
     for (number, (name, _)) in ROLLUPS.iter().enumerate() {
@@ -49,19 +50,19 @@ fn main() {
     drop((years, days));
 
     for (readings, number) in [(MOST, 0), (MOST + 1, 2)] {
-        let series = case(&counter(readings), minutes(1000));
+        let series = average(&counter(readings), minutes(1000));
         for (name, call) in Call::ALL {
             tally.call(call, &series, number, name);
         }
     }
     for (outputs, number) in [(MOST, 0), (MOST + 1, 11)] {
-        let grid = case(&counter(1000), minutes(outputs));
+        let grid = average(&counter(1000), minutes(outputs));
         for call in cuts::CALLS {
             let (name, _) = Call::ALL.into_iter().find(|(_, other)| *other == call).unwrap();
             tally.call(call, &grid, number, name);
         }
     }
-    tally.call(Call::Run, &case(&counter(MOST), minutes(MOST)), 0, "run");
+    tally.call(Call::Run, &average(&counter(MOST), minutes(MOST)), 0, "run");
     println!("{} calls, {} disagreements", tally.calls, tally.bad);
     exit((tally.bad > 0) as i32)
 }
@@ -70,26 +71,6 @@ fn main() {
 fn minutes(outputs: usize) -> Settings {
     let end = (outputs as i64 - 1) * 60_000;
     Settings { end, step: 60_000, window: 3_600_000, ..Settings::default() }
-}
-
-/// The average of a series under settings, with slices one entry longer than is asked.
-fn case((timestamps, values): &(Vec<i64>, Vec<f64>), settings: Settings) -> Case {
-    let readings = timestamps.len();
-    let mut case = Case {
-        timestamps: timestamps.clone(),
-        values: values.iter().map(|v| v.to_bits()).collect(),
-        pre: 0,
-        rollup: 0,
-        first: 0.5,
-        second: 0.5,
-        settings,
-        reach: 300_000,
-        dst_values: vec![],
-        prepared: vec![UNSET; readings + 1],
-        work: vec![UNSET; 2 * readings + 1],
-    };
-    case.dst_values = vec![UNSET; rows::points(&case) as usize + 1];
-    case
 }
 
 #[derive(Default)]

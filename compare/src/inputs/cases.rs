@@ -5,7 +5,7 @@ use original::exposed::Settings;
 
 use super::series::TIME_LIMIT;
 use super::{floats, series, settings};
-use crate::call::{Call, Case};
+use crate::call::{Call, Case, UNSET};
 use crate::rng::Rng;
 use crate::{judge, rows};
 
@@ -64,6 +64,26 @@ pub fn longest() -> impl Iterator<Item = Case> {
         prepared: vec![],
         work: vec![],
     })
+}
+
+/// The average of a series under settings, with slices one entry longer than is asked.
+pub fn average((timestamps, values): &(Vec<i64>, Vec<f64>), settings: Settings) -> Case {
+    let readings = timestamps.len();
+    let mut case = Case {
+        timestamps: timestamps.clone(),
+        values: values.iter().map(|v| v.to_bits()).collect(),
+        pre: 0,
+        rollup: 0,
+        first: 0.5,
+        second: 0.5,
+        settings,
+        reach: 300_000,
+        dst_values: vec![],
+        prepared: vec![UNSET; readings + 1],
+        work: vec![UNSET; 2 * readings + 1],
+    };
+    case.dst_values = vec![UNSET; rows::points(&case) as usize + 1];
+    case
 }
 
 /// The window and reach that a run would settle, or any others.
