@@ -28,8 +28,12 @@ pub fn csv(name: &str, input: impl Read, progress: &Progress) -> Result<Vec<Seri
     let mut reader = Reader::new(name);
     let mut bytes = vec![];
     for line in 1.. {
-        // A plain line is read where it stands. What keeps the buffer from being filled is met again.
-        if let Some(length) = reader.plain(line, input.fill_buf().unwrap_or_default()) {
+        let filled = input.fill_buf();
+        if matches!(filled, Ok([])) {
+            break;
+        }
+        // A plain line is read where it stands. An error in filling the buffer is met again.
+        if let Some(length) = reader.plain(line, filled.unwrap_or_default()) {
             input.consume(length);
         } else {
             bytes.clear();
