@@ -3,6 +3,7 @@
 
 pub mod arguments;
 pub mod call;
+pub mod cuts;
 pub mod inputs;
 pub mod judge;
 pub mod lists;

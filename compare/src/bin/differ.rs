@@ -1,5 +1,6 @@
-//! `differ CALL --cases N --seed S` compares an exported function of the port with the Rust on N
-//! generated calls; CALL is prepare, settle, run, settled_run or all (those that the archive has).
+//! `differ WHAT --cases N --seed S` compares the port with the Rust on N generated calls; WHAT is
+//! prepare, settle, run or settled_run, or cuts: accepted runs with the settled runs that they are
+//! cut into, or all (what the archive has the functions for).
 
 use std::collections::BTreeMap;
 use std::process::exit;
@@ -8,7 +9,62 @@ use compare::arguments::number;
 use compare::call::{Call, Case};
 use compare::inputs::cases;
 use compare::rng::Rng;
-use compare::{judge, oracle, port, shrink};
+use compare::{cuts, judge, oracle, port, shrink};
+
+/// What is compared.
+#[derive(Clone, Copy)]
+enum What {
+    One(Call),
+    Cuts,
+}
+
+/// A call, with a seed for its cut.
+type Generated = (Call, Case, u64);
+
+impl What {
+    /// All that the archive has the functions for, with their names.
+    fn all() -> Vec<(&'static str, What)> {
+        let calls = Call::ALL.into_iter().filter(|(_, call)| port::has(*call));
+        let mut all: Vec<_> = calls.map(|(name, call)| (name, What::One(call))).collect();
+        if cuts::CALLS.into_iter().all(port::has) {
+            all.push(("cuts", What::Cuts));
+        }
+        all
+    }
+
+    fn generated(self, rng: &mut Rng) -> Generated {
+        match self {
+            What::One(call) => (call, cases::case(rng, call), 0),
+            What::Cuts => {
+                let call = rng.pick(&[Call::Run, Call::SettledRun]);
+                (call, cases::accepted(rng, call), rng.bits())
+            }
+        }
+    }
+
+    /// The cases that come before the generated ones.
+    fn stated(self) -> Vec<Generated> {
+        match self {
+            What::One(call) => cases::longest().map(|case| (call, case, 0)).collect(),
+            What::Cuts => vec![],
+        }
+    }
+
+    /// The number under which an agreement is counted, or what differs.
+    fn disagreement(self, call: Call, case: &Case, seed: u64) -> Result<u64, String> {
+        match self {
+            What::One(_) => disagreement(call, case),
+            What::Cuts => cuts::disagreement(call, case, seed),
+        }
+    }
+
+    fn counted(self) -> &'static str {
+        match self {
+            What::One(_) => "number (0 is accepted)",
+            What::Cuts => "pieces (10 is ten or more)",
+        }
+    }
+}
 
 fn main() {
     judge::quiet();
@@ -16,41 +72,39 @@ fn main() {
     let Some(name) = words.first() else { usage() };
     let options = (number(&words, "--cases", 100_000), number(&words, "--seed", 1));
     let (Some(cases), Some(seed)) = options else { usage() };
-    let calls: Vec<(&str, Call)> = match name.as_str() {
-        "all" => Call::ALL.into_iter().filter(|(_, call)| port::has(*call)).collect(),
-        _ => Call::ALL.into_iter().filter(|(call, _)| call == name).collect(),
-    };
-    if calls.is_empty() || calls.iter().any(|(_, call)| !port::has(*call)) {
+    let mut all = What::all();
+    all.retain(|(what, _)| name == "all" || what == name);
+    if all.is_empty() {
         usage()
     }
-    let bad: u64 = calls.iter().map(|(name, call)| compare(name, *call, cases, seed)).sum();
-    let total = cases * calls.len() as u64;
-    println!("{total} cases, {bad} disagreements");
+    let bad: u64 = all.iter().map(|(name, what)| compare(name, *what, cases, seed)).sum();
+    println!("{} cases, {bad} disagreements", cases * all.len() as u64);
     exit((bad > 0) as i32)
 }
 
-/// Compares one call; gives the number of disagreements.
-fn compare(name: &str, call: Call, cases: u64, seed: u64) -> u64 {
+/// Compares one of them; gives the number of disagreements.
+fn compare(name: &str, what: What, cases: u64, seed: u64) -> u64 {
     let mut rng = Rng::new(seed);
     let mut agreed = BTreeMap::new();
-    let mut first: Option<Case> = None;
+    let mut first: Option<Generated> = None;
     let mut bad = 0;
-    let generated = (0..cases).map(|_| cases::case(&mut rng, call));
-    for case in cases::longest().chain(generated).take(cases as usize) {
-        match disagreement(call, &case) {
+    let generated = (0..cases).map(|_| what.generated(&mut rng));
+    for (call, case, seed) in what.stated().into_iter().chain(generated).take(cases as usize) {
+        match what.disagreement(call, &case, seed) {
             Ok(number) => *agreed.entry(number).or_insert(0) += 1,
             Err(_) => {
                 bad += 1;
-                first.get_or_insert(case);
+                first.get_or_insert((call, case, seed));
             }
         }
     }
     println!("{name}: {cases} cases from seed {seed}, {bad} disagreements");
     let rows: Vec<String> = agreed.iter().map(|(number, n)| format!("{number}: {n}")).collect();
-    println!("  agreed, by number (0 is accepted): {}", rows.join(", "));
-    if let Some(case) = first {
-        let case = shrink::shrink(case, |case| disagreement(call, case).is_err());
-        println!("  the first, made small:\n{case}\n  {}", disagreement(call, &case).unwrap_err());
+    println!("  agreed, by {}: {}", what.counted(), rows.join(", "));
+    if let Some((call, case, seed)) = first {
+        let differs = |case: &Case| what.disagreement(call, case, seed);
+        let case = shrink::shrink(case, |case| differs(case).is_err());
+        println!("  the first, made small:\n{case}\n  {}", differs(&case).unwrap_err());
     }
     bad
 }
@@ -68,12 +122,13 @@ fn disagreement(call: Call, case: &Case) -> Result<u64, String> {
 }
 
 fn usage() -> ! {
-    let has = Call::ALL.into_iter().filter(|(_, call)| port::has(*call));
-    let names: Vec<&str> = has.map(|(name, _)| name).collect();
-    eprintln!("differ CALL [--cases N] [--seed S]; CALL is all or one that the archive has");
-    match names[..] {
+    eprintln!("differ WHAT [--cases N] [--seed S]; WHAT is all or one that the archive has");
+    match &What::all()[..] {
         [] => eprintln!("no archive was found: write it by `rt staticlib harzoulin`"),
-        _ => eprintln!("the archive has: {}", names.join(", ")),
+        all => {
+            let names: Vec<&str> = all.iter().map(|(name, _)| *name).collect();
+            eprintln!("the archive has: {}", names.join(", "));
+        }
     }
     exit(2)
 }

@@ -5,7 +5,7 @@ use original::exposed::Settings;
 
 use super::series::TIME_LIMIT;
 use super::{floats, series, settings};
-use crate::call::{Call, Case};
+use crate::call::{Call, Case, UNSET};
 use crate::rng::Rng;
 use crate::{judge, rows};
 
@@ -66,6 +66,26 @@ pub fn longest() -> impl Iterator<Item = Case> {
     })
 }
 
+/// The average of a series under settings, with slices one entry longer than is asked.
+pub fn average((timestamps, values): &(Vec<i64>, Vec<f64>), settings: Settings) -> Case {
+    let readings = timestamps.len();
+    let mut case = Case {
+        timestamps: timestamps.clone(),
+        values: values.iter().map(|v| v.to_bits()).collect(),
+        pre: 0,
+        rollup: 0,
+        first: 0.5,
+        second: 0.5,
+        settings,
+        reach: 300_000,
+        dst_values: vec![],
+        prepared: vec![UNSET; readings + 1],
+        work: vec![UNSET; 2 * readings + 1],
+    };
+    case.dst_values = vec![UNSET; rows::points(&case) as usize + 1];
+    case
+}
+
 /// The window and reach that a run would settle, or any others.
 fn settled(rng: &mut Rng, case: &mut Case) {
     let (window, reach) = judge::settle(&case.settings, &case.timestamps);
@@ -75,7 +95,7 @@ fn settled(rng: &mut Rng, case: &mut Case) {
 }
 
 /// A slice filled with rubbish, of this length or a little longer.
-fn slice(rng: &mut Rng, length: usize) -> Vec<u64> {
+pub fn slice(rng: &mut Rng, length: usize) -> Vec<u64> {
     let longer = rng.pick(&[0, 0, 1, 7]);
     (0..length + longer).map(|_| rng.bits()).collect()
 }

@@ -62,3 +62,16 @@ fn step(rng: &mut Rng, interval: i64, jitter: i64, gap_in: u64) -> i64 {
 pub fn series(rng: &mut Rng, n: usize) -> (Vec<i64>, Vec<f64>) {
     (times(rng, n), floats::run(rng, n))
 }
+
+/// A counter read once a minute, with jitter, gaps and restarts.
+pub fn counter(readings: usize) -> (Vec<i64>, Vec<f64>) {
+    let mut rng = Rng::new(1);
+    let (mut time, mut count) = (0, 0.0);
+    let pairs = (0..readings).map(|_| {
+        time += 60_000 + rng.between(-500, 500);
+        time += if rng.once_in(10_000) { 3_600_000 } else { 0 };
+        count = if rng.once_in(20_000) { 0.0 } else { count + rng.between(0, 40) as f64 };
+        (time, count)
+    });
+    pairs.unzip()
+}

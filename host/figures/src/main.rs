@@ -10,6 +10,7 @@ mod jobs;
 mod list;
 mod options;
 mod output;
+mod plain;
 mod plot;
 mod progress;
 mod read;

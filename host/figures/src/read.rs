@@ -8,6 +8,7 @@ use std::io::{self, BufRead, BufReader, Read};
 
 use crate::columns::{Columns, quoted};
 use crate::failure::Failure;
+use crate::plain;
 use crate::progress::Progress;
 use crate::series::Series;
 use crate::time;
@@ -27,13 +28,22 @@ pub fn csv(name: &str, input: impl Read, progress: &Progress) -> Result<Vec<Seri
     let mut reader = Reader::new(name);
     let mut bytes = vec![];
     for line in 1.. {
-        bytes.clear();
-        match input.read_until(b'\n', &mut bytes) {
-            Ok(0) => break,
-            Ok(_) => reader.line(line, &bytes),
-            Err(error) => return Err(Failure::file(name, error)),
+        let filled = input.fill_buf();
+        if matches!(filled, Ok([])) {
+            break;
         }
-        .map_err(|expected| Failure::Input(format!("{name}:{line}: {expected}")))?;
+        // A plain line is read where it stands. An error in filling the buffer is met again.
+        if let Some(length) = reader.plain(line, filled.unwrap_or_default()) {
+            input.consume(length);
+        } else {
+            bytes.clear();
+            match input.read_until(b'\n', &mut bytes) {
+                Ok(0) => break,
+                Ok(_) => reader.line(line, &bytes),
+                Err(error) => return Err(Failure::file(name, error)),
+            }
+            .map_err(|expected| Failure::Input(format!("{name}:{line}: {expected}")))?;
+        }
         if line % 65_536 == 0 {
             progress.read(65_536);
         }
@@ -55,6 +65,14 @@ struct Reader<'a> {
 impl<'a> Reader<'a> {
     fn new(file: &'a str) -> Reader<'a> {
         Reader { file, columns: None, all: vec![], places: HashMap::new(), last: 0 }
+    }
+
+    /// Takes in the line that a buffer begins with, if it is a plain one, and gives its length.
+    fn plain(&mut self, line: usize, buffer: &[u8]) -> Option<usize> {
+        let series = self.all.get_mut(self.last)?;
+        let (time, value, length) = plain::reading(buffer, self.columns?, series)?;
+        series.push(line, time, value);
+        Some(length)
     }
 
     /// Takes a line in, or says what was expected of it.
@@ -105,10 +123,7 @@ impl<'a> Reader<'a> {
         let value =
             value.parse().map_err(|_| format!("expected a number as value, found {value:?}"))?;
         let place = self.place(columns.name.map(|column| row[column]), form)?;
-        let series = &mut self.all[place];
-        series.lines.push(series.times.len(), line);
-        series.times.push(time);
-        series.values.push(value);
+        self.all[place].push(line, time, value);
         Ok(())
     }
 
@@ -134,4 +149,74 @@ impl<'a> Reader<'a> {
 
 fn utf8(bytes: &[u8]) -> Result<&str, String> {
     str::from_utf8(bytes).map_err(|_| "expected UTF-8 text".into())
+}
+
+#[cfg(test)]
+mod tests {
+    use super::*;
+
+    /// A text that comes a byte at a time, so that no line stands in the buffer as a whole.
+    struct Bytes<'a>(&'a [u8]);
+
+    impl Read for Bytes<'_> {
+        fn read(&mut self, buffer: &mut [u8]) -> io::Result<usize> {
+            let length = self.0.len().min(1);
+            self.0.read(&mut buffer[..length])
+        }
+    }
+
+    /// What is read as a plain line is what the full reader makes of it.
+    #[test]
+    fn plain_lines_are_read_as_all_others() {
+        const NAMES: [&str; 10] =
+            ["a", "a", "a", "b", " a ", "\"a\"", "\"\"\"a\"", "\"a", "#a", "\"#a\""];
+        const TIMES: [&str; 12] = [
+            "5",
+            "60000",
+            "60001",
+            "-5",
+            "+7",
+            " 8",
+            "\"9\"",
+            "2026-01-01",
+            "2026-01-01T00:00:00Z",
+            "99999999999999999999",
+            "000000000000000000001",
+            "",
+        ];
+        const VALUES: [&str; 12] =
+            ["1", "20.5", "-0", "0.1", ".5", "5.", "1e5", "NaN", "\"3\"", "4 ", "-", "1,1"];
+        const ENDS: [&str; 8] = ["\n", "\n", "\n", "\r\n", " \n", "\n\n", "\n#\n", "\r\r\n"];
+        let mut seed: u64 = 1;
+        let mut pick = |texts: &[&str], usual: u64| {
+            seed = seed.wrapping_mul(6_364_136_223_846_793_005).wrapping_add(1);
+            let random = (seed >> 33) as usize;
+            // One time in so many any of the texts, else one of the first two.
+            texts[random / 64 % if random as u64 % usual == 0 { texts.len() } else { 2 }]
+                .to_string()
+        };
+        let mut plain = 0;
+        for _ in 0..30_000 {
+            let named = pick(&["", "named"], 1) == "named";
+            let mut text = match named {
+                true => pick(&["name,time,value\n", "", "value,time,name\n"], 2),
+                false => pick(&["time,value\n", ""], 2),
+            };
+            let turned = text.starts_with("value");
+            for _ in 0..4 {
+                let (name, time) = (pick(&NAMES, 3), pick(&TIMES, 4));
+                let (value, end) = (pick(&VALUES, 4), pick(&ENDS, 3));
+                text += &match (named, turned) {
+                    (true, true) => format!("{value},{time},{name}{end}"),
+                    (true, false) => format!("{name},{time},{value}{end}"),
+                    (false, _) => format!("{time},{value}{end}"),
+                };
+            }
+            let all = csv("text", text.as_bytes(), &Progress::default());
+            let full = csv("text", Bytes(text.as_bytes()), &Progress::default());
+            assert_eq!(format!("{all:?}"), format!("{full:?}"), "{text}");
+            plain += usize::from(all.is_ok());
+        }
+        assert!(plain > 3_000, "{plain}");
+    }
 }

@@ -29,6 +29,13 @@ impl Series {
         Series { file: file.into(), name, form, times, values, lines }
     }
 
+    /// Takes a reading in.
+    pub fn push(&mut self, line: usize, time: i64, value: f64) {
+        self.lines.push(self.times.len(), line);
+        self.times.push(time);
+        self.values.push(value);
+    }
+
     /// The message of a refusal: the file, the line and the name, where there are such.
     pub fn refused(&self, refusal: Refusal) -> Failure {
         let mut place = self.file.clone();

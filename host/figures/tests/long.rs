@@ -1,11 +1,15 @@
 //! Thirty years of a reading a minute: 15.8 million readings, read, settled, run and written
-//! within the memory that one series needs. Run by `cargo test --release --test long -- --ignored`.
+//! within the memory that one series needs. With `--nocapture` it prints how long that took beside
+//! the core alone: `cargo test --offline --release --test long -- --ignored --nocapture`.
 
 mod common;
 
 use std::fs::File;
 use std::io::{BufWriter, Write};
 use std::process::Command;
+use std::time::Instant;
+
+use harzoulin::{Rollup, Settings, Step, Workspace};
 
 const READINGS: i64 = 15_800_000;
 
@@ -13,29 +17,54 @@ const READINGS: i64 = 15_800_000;
 /// are 8 bytes × (2 + 1 + 2 + 1) a reading; growing vectors may hold half as much again.
 const MEMORY: u64 = 1_500_000;
 
+const MINUTE: i64 = 60_000;
+const DAY: i64 = 1440 * MINUTE;
+
+fn reading(place: i64) -> (i64, f64) {
+    (788_918_400_000 + place * MINUTE, (place * 7919 % 100_003) as f64 / 64.0)
+}
+
 #[test]
 #[ignore = "takes some seconds and half a gigabyte of disk"]
 fn thirty_years() {
     let folder = common::Folder::new("long");
     let mut file = BufWriter::new(File::create(folder.path().join("long.csv")).unwrap());
-    for reading in 0..READINGS {
-        let value = (reading * 7919 % 100_003) as f64 / 64.0;
-        writeln!(file, "{},{value}", 788_918_400_000 + reading * 60_000).unwrap();
+    for (time, value) in (0..READINGS).map(reading) {
+        writeln!(file, "{time},{value}").unwrap();
     }
     file.flush().unwrap();
-    for (step, figures) in [("1d", READINGS / 1440 + 2), ("1m", READINGS)] {
+    for (name, step, figures) in [("1d", DAY, READINGS / 1440 + 2), ("1m", MINUTE, READINGS)] {
         let line = format!(
-            "ulimit -v {MEMORY}; exec {} --rollup avg --step {step} --jobs 1 --stats \
+            "ulimit -v {MEMORY}; exec {} --rollup avg --step {name} --jobs 1 --stats \
              --output out.csv long.csv",
             env!("CARGO_BIN_EXE_figures")
         );
+        let begin = Instant::now();
         let run = Command::new("sh").args(["-c", &line]).current_dir(folder.path()).output();
+        let seconds = begin.elapsed().as_secs_f64();
         let run = run.unwrap();
         let stats = String::from_utf8(run.stderr).unwrap();
-        println!("{stats}");
         assert!(run.status.success(), "{stats}");
         assert!(stats.starts_with(&format!("1 series, {READINGS} readings, ")), "{stats}");
         let lines = folder.read("out.csv").lines().count() as i64;
         assert!((lines - 1 - figures).abs() <= 1, "{lines}");
+        let rate = READINGS as f64 / seconds / 1e6;
+        println!("--step {name}: {seconds:.2} s, {rate:.1} million readings a second\n{stats}");
+        println!("harzoulin_run alone, in memory at hand: {:.3} s\n", core(step));
     }
+}
+
+/// The best time of three that the core takes for the same figures, in seconds.
+fn core(step: i64) -> f64 {
+    let (times, values): (Vec<i64>, Vec<f64>) = (0..READINGS).map(reading).unzip();
+    let up = |time: i64| (time + step - 1) / step * step;
+    let (start, end) = (up(times[0]), up(times[times.len() - 1]));
+    let settings = Settings { start, end, step, ..Settings::default() };
+    let mut workspace = Workspace::new();
+    let mut run = || {
+        let begin = Instant::now();
+        workspace.run(&times, &values, Step::None, Rollup::Avg, &settings).unwrap();
+        begin.elapsed().as_secs_f64()
+    };
+    (0..4).map(|_| run()).skip(1).fold(f64::INFINITY, f64::min)
 }

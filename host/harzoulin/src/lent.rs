@@ -1,97 +1,13 @@
-//! The calls as the core has them, on slices that the caller lends. Here, and nowhere else, stands
-//! `unsafe`: the exported functions of include/harzoulin.h.
+//! The calls as the core has them, on slices that the caller lends. Here, and nowhere else, the
+//! exported functions are called, by `unsafe`.
 //!
 //! What those functions ask of a caller is that each slice is a pointer to that many entries, that
 //! the slices of one call do not overlap, and that each single place to be written can be. A `&` or
-//! `&mut` slice and a `&mut` to a local variable are all of this.
+//! `&mut` slice and a `&mut` to a local variable are all of this. An `f64` has the size and the
+//! alignment of the `u64` that is its pattern, and every pattern is an `f64`.
 
+use crate::exported::*;
 use crate::{Refusal, Rollup, Settings, Settled, SettledSettings, Step};
-
-unsafe extern "C" {
-    fn harzoulin_prepare(
-        timestamps: *const i64,
-        timestamps_len: usize,
-        values: *const u64,
-        values_len: usize,
-        pre: u32,
-        prepared: *mut u64,
-        prepared_len: usize,
-        index: &mut u64,
-    ) -> u64;
-
-    fn harzoulin_settle(
-        timestamps: *const i64,
-        timestamps_len: usize,
-        start: i64,
-        end: i64,
-        step: i64,
-        window: i64,
-        may_adjust_window: bool,
-        is_default_rollup: bool,
-        lookback_delta: i64,
-        min_staleness_interval: i64,
-        max_points_per_series: i64,
-        samples_scanned_per_call: u64,
-        settled_window: &mut i64,
-        reach: &mut i64,
-        points: &mut u64,
-        index: &mut u64,
-    ) -> u64;
-
-    fn harzoulin_run(
-        timestamps: *const i64,
-        timestamps_len: usize,
-        values: *const u64,
-        values_len: usize,
-        pre: u32,
-        rollup: u32,
-        first: f64,
-        second: f64,
-        start: i64,
-        end: i64,
-        step: i64,
-        window: i64,
-        may_adjust_window: bool,
-        is_default_rollup: bool,
-        lookback_delta: i64,
-        min_staleness_interval: i64,
-        max_points_per_series: i64,
-        samples_scanned_per_call: u64,
-        dst_values: *mut u64,
-        dst_values_len: usize,
-        prepared: *mut u64,
-        prepared_len: usize,
-        work: *mut f64,
-        work_len: usize,
-        count: &mut u64,
-        index: &mut u64,
-    ) -> u64;
-
-    fn harzoulin_settled_run(
-        timestamps: *const i64,
-        timestamps_len: usize,
-        values: *const u64,
-        values_len: usize,
-        pre: u32,
-        rollup: u32,
-        first: f64,
-        second: f64,
-        start: i64,
-        end: i64,
-        step: i64,
-        window: i64,
-        reach: i64,
-        samples_scanned_per_call: u64,
-        dst_values: *mut u64,
-        dst_values_len: usize,
-        prepared: *mut u64,
-        prepared_len: usize,
-        work: *mut f64,
-        work_len: usize,
-        count: &mut u64,
-        index: &mut u64,
-    ) -> u64;
-}
 
 /// The slices that a run is lent. On success the first entries of `output` are the figures, those
 /// of `prepared` the prepared values, and twice as many of `work` are 0.0.
@@ -109,25 +25,25 @@ pub struct Slices<'a> {
 pub fn settle(timestamps: &[i64], settings: &Settings) -> Result<Settled, Refusal> {
     let s = settings;
     let (mut window, mut reach, mut points, mut index) = (0, 0, 0, 0);
-    // Safe: the pointer and the length are of one slice, which is only read.
+    // Safe: the one slice is only read, and the places are variables.
     let number = unsafe {
-        harzoulin_settle(
-            timestamps.as_ptr(),
-            timestamps.len(),
-            s.start,
-            s.end,
-            s.step,
-            s.window,
-            s.may_adjust_window,
-            s.is_default_rollup,
-            s.lookback_delta,
-            s.min_staleness_interval,
-            s.max_points_per_series,
-            s.samples_scanned_per_call,
-            &mut window,
-            &mut reach,
-            &mut points,
-            &mut index,
+        ask!(
+            harzoulin_settle,
+            [timestamps],
+            [
+                s.start,
+                s.end,
+                s.step,
+                s.window,
+                s.may_adjust_window,
+                s.is_default_rollup,
+                s.lookback_delta,
+                s.min_staleness_interval,
+                s.max_points_per_series,
+                s.samples_scanned_per_call,
+            ],
+            [],
+            [window, reach, points, index]
         )
     };
     accepted(number, index)?;
@@ -142,21 +58,9 @@ pub fn prepare(
     prepared: &mut [f64],
 ) -> Result<(), Refusal> {
     let mut index = 0;
-    // Safe: each pointer and length are of one slice. An f64 has the size and the alignment of the
-    // u64 that is its pattern, and every pattern is an f64. `prepared` is borrowed for writing, so
-    // it overlaps neither of the others.
-    let number = unsafe {
-        harzoulin_prepare(
-            timestamps.as_ptr(),
-            timestamps.len(),
-            values.as_ptr().cast(),
-            values.len(),
-            pre as u32,
-            prepared.as_mut_ptr().cast(),
-            prepared.len(),
-            &mut index,
-        )
-    };
+    // Safe: `prepared` is borrowed for writing, so it overlaps neither of the others.
+    let number =
+        unsafe { ask!(harzoulin_prepare, [timestamps, values], [pre as u32], [prepared], [index]) };
     accepted(number, index)
 }
 
@@ -172,36 +76,30 @@ pub fn run(
     let s = settings;
     let (first, second) = rollup.parameters();
     let (mut count, mut index) = (0, 0);
-    // Safe: as for `prepare`; the three lent slices are borrowed for writing, so none overlaps
-    // another slice of the call.
+    // Safe: the three lent slices are borrowed for writing, so none overlaps another slice of the
+    // call.
     let number = unsafe {
-        harzoulin_run(
-            timestamps.as_ptr(),
-            timestamps.len(),
-            values.as_ptr().cast(),
-            values.len(),
-            pre as u32,
-            rollup.number(),
-            first,
-            second,
-            s.start,
-            s.end,
-            s.step,
-            s.window,
-            s.may_adjust_window,
-            s.is_default_rollup,
-            s.lookback_delta,
-            s.min_staleness_interval,
-            s.max_points_per_series,
-            s.samples_scanned_per_call,
-            slices.output.as_mut_ptr().cast(),
-            slices.output.len(),
-            slices.prepared.as_mut_ptr().cast(),
-            slices.prepared.len(),
-            slices.work.as_mut_ptr(),
-            slices.work.len(),
-            &mut count,
-            &mut index,
+        ask!(
+            harzoulin_run,
+            [timestamps, values],
+            [
+                pre as u32,
+                rollup.number(),
+                first,
+                second,
+                s.start,
+                s.end,
+                s.step,
+                s.window,
+                s.may_adjust_window,
+                s.is_default_rollup,
+                s.lookback_delta,
+                s.min_staleness_interval,
+                s.max_points_per_series,
+                s.samples_scanned_per_call,
+            ],
+            [slices.output, slices.prepared, slices.work],
+            [count, index]
         )
     };
     accepted(number, index)?;
@@ -222,29 +120,23 @@ pub fn settled_run(
     let (mut count, mut index) = (0, 0);
     // Safe: as for `run`.
     let number = unsafe {
-        harzoulin_settled_run(
-            timestamps.as_ptr(),
-            timestamps.len(),
-            values.as_ptr().cast(),
-            values.len(),
-            pre as u32,
-            rollup.number(),
-            first,
-            second,
-            s.start,
-            s.end,
-            s.step,
-            s.window,
-            s.reach,
-            s.samples_scanned_per_call,
-            slices.output.as_mut_ptr().cast(),
-            slices.output.len(),
-            slices.prepared.as_mut_ptr().cast(),
-            slices.prepared.len(),
-            slices.work.as_mut_ptr(),
-            slices.work.len(),
-            &mut count,
-            &mut index,
+        ask!(
+            harzoulin_settled_run,
+            [timestamps, values],
+            [
+                pre as u32,
+                rollup.number(),
+                first,
+                second,
+                s.start,
+                s.end,
+                s.step,
+                s.window,
+                s.reach,
+                s.samples_scanned_per_call,
+            ],
+            [slices.output, slices.prepared, slices.work],
+            [count, index]
         )
     };
     accepted(number, index)?;

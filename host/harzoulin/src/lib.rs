@@ -17,6 +17,7 @@
 //! # Ok::<(), harzoulin::Refusal>(())
 //! ```
 
+mod exported;
 pub mod lent;
 mod refusal;
 mod rollup;
