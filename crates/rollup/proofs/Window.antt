@@ -122,13 +122,18 @@ first-value l h = rw (first-at nan (floats l)) (getD-floats l 0 nan (omega arith
 pub last-value : (l : List ℕ) → (length l ≡ 0 → ⊥) → lastOf (floats l) ≡ ofBits binary64 (getD l (length l - 1) 0)
 last-value l h = rw (last-at nan (floats l), length-floats l) (getD-floats l (length l - 1) nan (omega arith))
 
--- a loop from the seed over the values after it, where there is a predecessor or a value
-pub from-seed : (f : Float → List Float → Float) (p : Float) (l : List ℕ) {s : Float} {r : List ℕ} → (isNan p ≡ true → length l ≡ 0 → ⊥) → s ≡ cond (isNan p) (firstOf (floats l)) p → r ≡ cond (isNan p) (drop 1 l) l
+-- a loop from the seed over the values after it; where there is neither a predecessor nor a value, it has to give NaN
+at-first : (f : Float → List Float → Float) (l : List ℕ) → (length l ≡ 0 → f nan [] ≡ nan) → f (firstOf (floats l)) (floats (drop 1 l)) ≡ cond (isEmpty (floats l)) nan (f (firstOf (floats l)) (drop 1 (floats l)))
+unfolding floats isEmpty firstOr
+at-first f [] h = h refl
+at-first f (b ∷ l) h = refl
+
+pub from-seed : (f : Float → List Float → Float) (p : Float) (l : List ℕ) {s : Float} {r : List ℕ} → (isNan p ≡ true → length l ≡ 0 → f nan [] ≡ nan) → s ≡ cond (isNan p) (firstOf (floats l)) p → r ≡ cond (isNan p) (drop 1 l) l
     → f s (floats r) ≡ seeded f p (floats l)
 from-seed f p l {s} {r} h e d = go (isNan p) refl
   where
     go : (b : Bool) → isNan p ≡ b → f s (floats r) ≡ seeded f p (floats l)
-    go true n = rw (e, d, n, some-values l (h n), rest-values 1 l)
+    go true n = rw (e, d, n) (at-first f l (h n))
     go false n = rw (e, d, n)
 
 -- one of the two is there, where the tests for neither did not both hold

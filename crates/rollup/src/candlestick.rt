@@ -3,13 +3,13 @@
 
 use crate::rollup_fns::extreme;
 use crate::types::RollupFuncArg;
+use crate::types::after_seed;
 use crate::types::count_up_to;
-use crate::types::first;
 use crate::types::is_before;
 use crate::types::last;
 use crate::types::nan;
 use crate::types::prefix;
-use crate::types::rest;
+use crate::types::seed;
 ghost use mathlib.Core.Path.{_≡_};
 ghost use lib.ListN.{length};
 ghost use Rattle.rollup.specs.Types.{Ranged};
@@ -49,10 +49,7 @@ pub fn rollup_open(rfa: RollupFuncArg, values: &[u64], timestamps: &[i64]) -> f6
     ensures { λ r. ⌜ r ≡ openOf rfa (floats (now (values .entry))) (now (timestamps .entry)) ⌝ }
 {
     let v = get_first_value_for_candlestick(rfa, timestamps);
-    if ieee::is_nan(v) {
-        return first(get_candlestick_values(rfa, values, timestamps));
-    }
-    v
+    seed(v, get_candlestick_values(rfa, values, timestamps))
 }
 
 pub fn rollup_close(rfa: RollupFuncArg, values: &[u64], timestamps: &[i64]) -> f64
@@ -75,13 +72,7 @@ fn extreme_candle(down: bool, rfa: RollupFuncArg, values: &[u64], timestamps: &[
 {
     let v = get_first_value_for_candlestick(rfa, timestamps);
     let candles = get_candlestick_values(rfa, values, timestamps);
-    if ieee::is_nan(v) {
-        if candles.len() == 0 {
-            return nan();
-        }
-        return extreme(down, first(candles), rest(candles));
-    }
-    extreme(down, v, candles)
+    extreme(down, seed(v, candles), after_seed(v, candles))
 }
 
 pub fn rollup_high(rfa: RollupFuncArg, values: &[u64], timestamps: &[i64]) -> f64

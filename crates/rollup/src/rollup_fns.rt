@@ -1,6 +1,7 @@
 // The rollups of rollup_fns.rs. Each answers NaN for a window that does not settle it.
 
 use crate::types::RollupFuncArg;
+use crate::types::after_seed;
 use crate::types::first;
 use crate::types::first_time;
 use crate::types::init;
@@ -9,14 +10,14 @@ use crate::types::last_time;
 use crate::types::nan;
 use crate::types::rest;
 use crate::types::seconds_between;
+use crate::types::seed;
 use crate::types::time_at;
 use crate::types::value_at;
 use math::regression::Line;
 ghost use mathlib.Core.Path.{_≡_};
 ghost use Prim.Native.Nat.{_-_, _*_, _≤_, _<_};
-ghost use mathlib.Core.Bool.{cond};
-ghost use lib.ListN.{drop, length};
-ghost use lib.Ieee.{isNan, ne};
+ghost use lib.ListN.{length};
+ghost use lib.Ieee.{ne};
 ghost use Rattle.math.specs.Deviation.{stddevOf, stdvarOf};
 ghost use Rattle.math.specs.Mode.{modeOf};
 ghost use Rattle.math.specs.Quantile.{madOf, medianOf};
@@ -459,26 +460,6 @@ fn count_steps(down: bool, prev_value: f64, values: &[u64]) -> f64
         i += 1;
     }
     ieee::of_count(n)
-}
-
-// Where the steps of a window begin: at the predecessor, or else at the first value.
-fn seed(prev_value: f64, values: &[u64]) -> f64
-    ensures { λ r. ⌜ r ≡ cond (isNan «prev_value») (firstOf (floats (now (values .entry)))) «prev_value» ⌝ }
-{
-    if ieee::is_nan(prev_value) {
-        return first(values);
-    }
-    prev_value
-}
-
-// The values that the steps lead to.
-fn after_seed(prev_value: f64, values: &[u64]) -> &[u64]
-    ensures { λ r. ⌜ now r ≡ cond (isNan «prev_value») (drop 1 (now (values .entry))) (now (values .entry)) ⌝ }
-{
-    if ieee::is_nan(prev_value) {
-        return rest(values);
-    }
-    values
 }
 
 // The steps that go the given way, from the predecessor, or else from the first value, on.

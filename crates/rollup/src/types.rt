@@ -1,12 +1,13 @@
 // The window record that every rollup is handed, and how a rollup reads the window beside it.
 
+ghost use mathlib.Core.Bool.{cond};
 ghost use mathlib.Core.Path.{_≡_};
 ghost use Prim.Native.Nat.{_+_, _-_, _≤_, _<_, _^_};
 ghost use lib.ListN.{drop, getD, length, take};
 ghost use lib.IntN.{natAbs, pos, _-ℤ_};
 ghost use lib.Signed.{ltZ};
 ghost use lib.Ieee as Ieee;
-ghost use lib.Ieee.{binary64, ofBits};
+ghost use lib.Ieee.{binary64, isNan, ofBits};
 ghost use Rattle.rollup.specs.Window.{firstOf, firstOr, floats, lastOf, lastOr, secondsF, upToLast};
 
 pub struct RollupFuncArg {
@@ -67,6 +68,26 @@ pub fn rest(values: &[u64]) -> &[u64]
         return values;
     }
     &values[1..]
+}
+
+// Where a rollup over a window begins: at the predecessor, or else at the first value.
+pub fn seed(prev_value: f64, values: &[u64]) -> f64
+    ensures { λ r. ⌜ r ≡ cond (isNan «prev_value») (firstOf (floats (now (values .entry)))) «prev_value» ⌝ }
+{
+    if ieee::is_nan(prev_value) {
+        return first(values);
+    }
+    prev_value
+}
+
+// The values after that.
+pub fn after_seed(prev_value: f64, values: &[u64]) -> &[u64]
+    ensures { λ r. ⌜ now r ≡ cond (isNan «prev_value») (drop 1 (now (values .entry))) (now (values .entry)) ⌝ }
+{
+    if ieee::is_nan(prev_value) {
+        return rest(values);
+    }
+    values
 }
 
 // The first n values.

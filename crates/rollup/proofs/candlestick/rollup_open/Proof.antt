@@ -8,11 +8,7 @@ use Rattle.rollup.proofs.candlestick.rollup_open.Tie as tie
 
 returns : tie.Need-returns
 unfolding openOf
-returns c = rw (← c .before .before .before .before .get-first-value-for-candlestick .ensures, ← c .before .before .before .is-nan .ensures, c .before .before .if1 .taken, candle-values, ← c .before .get-candlestick-values .ensures) (c .first .ensures)
-
-returns-2 : tie.Need-returns-2
-unfolding openOf
-returns-2 c = rw (← c .before .before .get-first-value-for-candlestick .ensures, ← c .before .is-nan .ensures, c .if1 .left)
+returns c = rw (← c .before .before .get-first-value-for-candlestick .ensures, candle-values, ← c .before .get-candlestick-values .ensures) (c .seed .ensures)
 
 pub rollup-open-spec : {M : Type 1} → statement M
-rollup-open-spec = tie.close (tie.spec (λ c κs. search needs) (λ c κs. search needs) (λ c κs. search needs) (λ c κs. search needs) returns returns-2)
+rollup-open-spec = tie.close (tie.spec (λ c κs. search needs) (λ c κs. search needs) (λ c κs. search needs) returns)

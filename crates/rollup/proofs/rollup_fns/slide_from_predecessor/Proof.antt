@@ -18,7 +18,7 @@ returns-2 c =
     let j = c .before .before .before in
     let s = j .before .before .before in
     let some = not-neither (s .args .rfa .«prev_value») (j .before .is-nan .ensures) (⊎-elim (λ w. inl (w .0 .taken, w .1 .left)) (λ w. inr (w .left)) (j .if1 .came)) in
-    c .slide-over .ensures ∙ from-seed (slideFrom (s .args .down)) (s .args .rfa .«prev_value») (s .args .values .now) some (c .before .before .seed .ensures) (c .before .after-seed .ensures)
+    c .slide-over .ensures ∙ from-seed (slideFrom (s .args .down)) (s .args .rfa .«prev_value») (s .args .values .now) (λ n z. absurd (some n z)) (c .before .before .seed .ensures) (c .before .after-seed .ensures)
 
 pub slide-from-predecessor-spec : {M : Type 1} → statement M
 slide-from-predecessor-spec = tie.close (tie.spec (λ c κs. search needs) (λ c κs. search needs) returns (λ c κs. search needs) (λ c κs. search needs) (λ c κs. search needs) returns-2)

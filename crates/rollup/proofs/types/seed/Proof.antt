@@ -1,9 +1,9 @@
--- `rollup::rollup_fns::seed` meets its contract: the first value stands in for a predecessor that is none.
+-- `rollup::types::seed` meets its contract: the first value stands in for a predecessor that is none.
 -- Assumes nothing.
 use mathlib.Core.Path.{refl}
 use borrow.Author.Needs.{needs}
-use Rattle.rollup.proofs.rollup_fns.seed.Statement.{statement}
-use Rattle.rollup.proofs.rollup_fns.seed.Tie as tie
+use Rattle.rollup.proofs.types.seed.Statement.{statement}
+use Rattle.rollup.proofs.types.seed.Tie as tie
 
 returns : tie.Need-returns
 returns c = rw (← c .before .before .is-nan .ensures, c .before .if1 .taken) (c .first .ensures)

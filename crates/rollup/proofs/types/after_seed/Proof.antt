@@ -1,9 +1,9 @@
--- `rollup::rollup_fns::after_seed` meets its contract: the first value is left out where it is the seed.
+-- `rollup::types::after_seed` meets its contract: the first value is left out where it is the seed.
 -- Assumes nothing.
 use mathlib.Core.Path.{refl}
 use borrow.Author.Needs.{needs}
-use Rattle.rollup.proofs.rollup_fns.after_seed.Statement.{statement}
-use Rattle.rollup.proofs.rollup_fns.after_seed.Tie as tie
+use Rattle.rollup.proofs.types.after_seed.Statement.{statement}
+use Rattle.rollup.proofs.types.after_seed.Tie as tie
 
 returns : tie.Need-returns
 returns c = rw (← c .before .before .is-nan .ensures, c .before .if1 .taken) (c .rest .ensures)
