@@ -1,4 +1,4 @@
-pub mod InPlace
+pub mod Written
 pub mod Leading
 pub mod Signed
 pub mod Times

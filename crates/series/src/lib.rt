@@ -33,13 +33,12 @@ pub fn apply(timestamps: &[i64], values: &[u64], pre: PreFunction, prepared: &mu
     requires { ⌜ (seriesChecked (now timestamps) (now values) ≡ Checked.Accepted) × (length (now prepared) ≡ length (now values)) ⌝ }
     ensures { λ _. ⌜ now (prepared .exit) ≡ patterns (preparedOf pre (now (timestamps .entry)) (floats (now (values .entry)))) ⌝ }
 {
-    copy(values, prepared);
     match pre {
-        PreFunction::None => {}
-        PreFunction::Resets => steps::remove_counter_resets(prepared),
-        PreFunction::Delta => steps::delta_values(prepared),
-        PreFunction::Deriv => steps::deriv_values(prepared, timestamps),
-        PreFunction::Intervals => steps::calc_sample_intervals_pre_fn(prepared, timestamps),
+        PreFunction::None => copy(values, prepared),
+        PreFunction::Resets => steps::remove_counter_resets(values, prepared),
+        PreFunction::Delta => steps::delta_values(values, prepared),
+        PreFunction::Deriv => steps::deriv_values(values, timestamps, prepared),
+        PreFunction::Intervals => steps::calc_sample_intervals_pre_fn(timestamps, prepared),
     }
 }
 

@@ -1,4 +1,4 @@
-// The preparing steps, in place on the values' patterns, one pass each.
+// The preparing steps, from the values' patterns to the prepared ones, one pass each.
 
 ghost use mathlib.Core.Path.{_≡_};
 ghost use Rattle.series.specs.Patterns.{floats, patterns};
@@ -46,8 +46,9 @@ fn raised(p: f64, v: f64) -> f64
 }
 
 // Each value with the counter's resets added back.
-pub fn remove_counter_resets(values: &mut [u64])
-    ensures { λ _. ⌜ now (values .exit) ≡ patterns (resets (floats (now (values .entry)))) ⌝ }
+pub fn remove_counter_resets(values: &[u64], prepared: &mut [u64])
+    requires { ⌜ length (now prepared) ≡ length (now values) ⌝ }
+    ensures { λ _. ⌜ now (prepared .exit) ≡ patterns (resets (floats (now (values .entry)))) ⌝ }
 {
     let mut correction = 0.0;
     // Nothing lies below -infinity, so the first value is no reset.
@@ -57,14 +58,15 @@ pub fn remove_counter_resets(values: &mut [u64])
         let v = ieee::value_of(values[i]);
         correction = corrected(correction, prev_value, v);
         prev_value = raised(prev_value, v + correction);
-        values[i] = ieee::bits_of(prev_value);
+        prepared[i] = ieee::bits_of(prev_value);
         i += 1;
     }
 }
 
 // Each value's step to the next; the last step twice.
-pub fn delta_values(values: &mut [u64])
-    ensures { λ _. ⌜ now (values .exit) ≡ patterns (deltas (floats (now (values .entry)))) ⌝ }
+pub fn delta_values(values: &[u64], prepared: &mut [u64])
+    requires { ⌜ length (now prepared) ≡ length (now values) ⌝ }
+    ensures { λ _. ⌜ now (prepared .exit) ≡ patterns (deltas (floats (now (values .entry)))) ⌝ }
 {
     if values.len() == 0 {
         return;
@@ -75,11 +77,11 @@ pub fn delta_values(values: &mut [u64])
     while j + 1 < values.len() {
         let v = ieee::value_of(values[j + 1]);
         prev_delta = v - prev_value;
-        values[j] = ieee::bits_of(prev_delta);
+        prepared[j] = ieee::bits_of(prev_delta);
         prev_value = v;
         j += 1;
     }
-    values[j] = ieee::bits_of(prev_delta);
+    prepared[j] = ieee::bits_of(prev_delta);
 }
 
 impl Slope {
@@ -101,9 +103,9 @@ impl Slope {
 }
 
 // Each value's slope to the next, per second; the last slope twice.
-pub fn deriv_values(values: &mut [u64], timestamps: &[i64])
-    requires { ⌜ (length (now timestamps) ≡ length (now values)) × (leading inside (now timestamps) ≡ length (now timestamps)) ⌝ }
-    ensures { λ _. ⌜ now (values .exit) ≡ patterns (derivs (now (timestamps .entry)) (floats (now (values .entry)))) ⌝ }
+pub fn deriv_values(values: &[u64], timestamps: &[i64], prepared: &mut [u64])
+    requires { ⌜ (length (now timestamps) ≡ length (now values)) × (length (now prepared) ≡ length (now values)) × (leading inside (now timestamps) ≡ length (now timestamps)) ⌝ }
+    ensures { λ _. ⌜ now (prepared .exit) ≡ patterns (derivs (now (timestamps .entry)) (floats (now (values .entry)))) ⌝ }
 {
     if values.len() == 0 {
         return;
@@ -116,10 +118,10 @@ pub fn deriv_values(values: &mut [u64], timestamps: &[i64])
     let mut j = 0;
     while j + 1 < values.len() {
         slope = slope.next(ieee::value_of(values[j + 1]), timestamps[j + 1]);
-        values[j] = ieee::bits_of(slope.deriv);
+        prepared[j] = ieee::bits_of(slope.deriv);
         j += 1;
     }
-    values[j] = ieee::bits_of(slope.deriv);
+    prepared[j] = ieee::bits_of(slope.deriv);
 }
 
 fn whole_seconds(t: i64) -> f64
@@ -129,19 +131,19 @@ fn whole_seconds(t: i64) -> f64
 }
 
 // The interval of each reading from the one before, in whole seconds; the first interval twice, and NaN for a lone reading.
-pub fn calc_sample_intervals_pre_fn(values: &mut [u64], timestamps: &[i64])
-    requires { ⌜ length (now timestamps) ≡ length (now values) ⌝ }
-    ensures { λ _. ⌜ now (values .exit) ≡ patterns (intervals (now (timestamps .entry))) ⌝ }
+pub fn calc_sample_intervals_pre_fn(timestamps: &[i64], prepared: &mut [u64])
+    requires { ⌜ length (now prepared) ≡ length (now timestamps) ⌝ }
+    ensures { λ _. ⌜ now (prepared .exit) ≡ patterns (intervals (now (timestamps .entry))) ⌝ }
 {
     let mut prev = 0.0 / 0.0;
     let mut i = 0;
-    while i < values.len() {
+    while i < timestamps.len() {
         let secs = whole_seconds(timestamps[i]);
-        values[i] = ieee::bits_of(secs - prev);
+        prepared[i] = ieee::bits_of(secs - prev);
         prev = secs;
         i += 1;
     }
-    if 1 < values.len() {
-        values[0] = values[1];
+    if 1 < prepared.len() {
+        prepared[0] = prepared[1];
     }
 }
