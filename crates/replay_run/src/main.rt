@@ -236,19 +236,13 @@ fn replayed(text: &[u8], at: usize, n: usize, g: usize) -> bool
 fn case(text: &[u8]) -> Case {
     let n = vectors::word(text, 3 * STEP);
     if n > 64 {
-        return Case {
-            len: 0,
-            same: false,
-        };
+        return replay::unread();
     }
     let n = n as usize;
     let at = 14 * STEP + 2 * n * STEP;
     let g = vectors::word(text, at + 4 * STEP);
     if g > 64 {
-        return Case {
-            len: 0,
-            same: false,
-        };
+        return replay::unread();
     }
     let g = g as usize;
     Case {
