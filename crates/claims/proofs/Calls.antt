@@ -1,8 +1,8 @@
 -- What holds of a call of run and of settled run alike, by its settings' two cases.
 -- Assumes nothing.
-use mathlib.Core.Path.{_≡_, refl, sym, ap, _∙_}
+use mathlib.Core.Path.{_≡_, refl, sym, _∙_}
 use mathlib.Core.List.{List, [], _∷_}
-use Prim.Native.Nat.{ℕ, _+_, _<_}
+use Prim.Native.Nat.{ℕ, _<_}
 use native.Mathlib.Omega.{arith}
 use lib.ListN.{length, length-map}
 use lib.Ieee.{binary64, ofBits, toBits}
@@ -12,15 +12,15 @@ use Rattle.series.specs.Refusals.{firstOf}
 use Rattle.series.specs.Rows.{seriesChecked}
 use Rattle.series.specs.Steps.{preparedOf}
 use Rattle.series.specs.declared.refusal.Checked.{Checked}
-use Rattle.series.specs.declared.refusal.Checked.the-variants.{Accepted, Refused}
+use Rattle.series.specs.declared.refusal.Checked.the-variants.{Accepted}
 use Rattle.series.proofs.Accepted.{AllAccept, accepted-series, all-accept}
 use Rattle.series.proofs.Prepared.{prepared-length}
 use Rattle.times.specs.Grid.{gridSize}
 use Rattle.times.proofs.GridLaws.{grid-length}
 use Rattle.times.proofs.Readings.{zip-length}
 use Rattle.run.specs.Record.{reading}
-use Rattle.run.specs.Run.{Outcome, Plan, lentChecked, outcome, preparedBits, preparedSeries, runChecked, settledChecked}
-use Rattle.claims.specs.Calls.{Call, Settings, run, settled, accepted, checked, checkedBy, ifCounted, outputTimes, plan, planBy, returned, returnedBy, samples}
+use Rattle.run.specs.Run.{lentChecked, outcome, preparedSeries, runChecked, settledChecked}
+use Rattle.claims.specs.Calls.{Call, Settings, run, settled, accepted, checked, checkedBy, outputTimes, plan, planBy, returned, returnedBy, samples}
 
 -- rows 6 to 11 of each call
 abbrev pub settingsRows : Settings → Checked

@@ -9,22 +9,14 @@ use native.Mathlib.Omega.{arith}
 use lib.IntN.{ℤ}
 use lib.ListN.{length, length-map, take}
 use lib.Seq.{take-at}
-use Rattle.series.specs.Patterns.{floats}
-use Rattle.series.specs.Rows.{seriesChecked}
-use Rattle.series.specs.Steps.{preparedOf}
 use Rattle.series.specs.declared.refusal.Checked.{Checked}
 use Rattle.series.specs.declared.refusal.Checked.the-variants.{Accepted, Refused}
-use Rattle.series.proofs.Accepted.{accepted-series}
-use Rattle.series.proofs.Prepared.{prepared-length}
-use Rattle.times.specs.Grid.{gridSize}
-use Rattle.times.proofs.GridLaws.{grid-length}
-use Rattle.times.proofs.Readings.{zip-length}
 use Rattle.run.specs.declared.Figures.{Figures}
 use Rattle.run.specs.declared.Figures.the-variants.{Counted, Refused as NotRun}
 use Rattle.run.specs.Figures.{figures, scans}
-use Rattle.run.specs.Record.{Reading, reading, recordAt}
+use Rattle.run.proofs.Loop.{scans-append}
 use Rattle.run.specs.Run.{Lent, Outcome, Plan, countedOf, outcome, preparedSeries}
-use Rattle.claims.specs.Calls.{Call, Settings, run, settled, accepted, answers, checked, counted, ifCounted, countIn, outputTimes, plan, planBy, returned, samples}
+use Rattle.claims.specs.Calls.{Call, accepted, answers, checked, counted, ifCounted, countIn, outputTimes, plan, returned, samples}
 use Rattle.claims.specs.Cut.{AcceptedAlike, Alike, Cut, Rejoined, joined, total}
 use Rattle.claims.proofs.Calls.{accepted-call, prepared-samples, returned-is, some-outputs}
 
@@ -39,11 +31,6 @@ scansBy p ts = scans (p .per-call) (preparedSeries p) (p .window) ts
 figures-append : (p : Plan) (ts us : List ℤ) → figuresBy p (ts ++ us) ≡ figuresBy p ts ++ figuresBy p us
 unfolding figures
 figures-append p ts us = map-append _ ts us
-
-scans-append : (p : Plan) (ts us : List ℤ) → scansBy p (ts ++ us) ≡ scansBy p ts + scansBy p us
-unfolding scans
-scans-append p [] us = omega arith
-scans-append p (t ∷ ts) us = omega (arith, scans-append p ts us)
 
 figures-length : (p : Plan) (ts : List ℤ) → length (figuresBy p ts) ≡ length ts
 unfolding figures
@@ -95,7 +82,7 @@ module _ (p : Plan) where
   total-counts [] a = omega arith
   total-counts (c ∷ cs) a =
       rw (add-mul (accepted c) (total accepted cs) (length (preparedSeries p)))
-      (omega (arith, call-count c (a .0), total-counts cs (a .1), scans-append p (outputTimes c) (joined outputTimes cs)))
+      (omega (arith, call-count c (a .0), total-counts cs (a .1), scans-append (p .per-call) (preparedSeries p) (p .window) (outputTimes c) (joined outputTimes cs)))
 
 no-times : (c : Call) → accepted c ≡ 0 → outputTimes c ≡ []
 no-times c e = go (returned c .answer) e

@@ -1,17 +1,17 @@
 -- A piece passes the rows of the series as its call does; its times lie in the call's span, its grid is a stretch of the call's, and what a call goes by
 -- lies in the ranges of a settled run. So only the rows on slices are left to refuse it.
 -- Assumes nothing.
-use mathlib.Core.Path.{_≡_, refl, sym, ap, ap₂, _∙_}
+use mathlib.Core.Path.{_≡_, refl, sym, ap, _∙_}
 use mathlib.Core.Bool.{Bool, true, false, _||_, _&&_, not, true≢false}
 use mathlib.Core.List.{List, [], _∷_}
 use Prim.Native.Nat.{ℕ, _+_, _-_, _*_, _≤_, _<_}
 use native.Mathlib.Omega.{arith}
-use borrow.Author.Tests.{le-leb, le-ltb, ltb-false}
-use lib.Dec.{leb, ltb}
+use borrow.Author.Tests.{le-leb, le-ltb}
+use lib.Dec.{ltb}
 use lib.IntN.{ℤ, pos, negsuc, negℤ, natAbs}
 use lib.ListN.{length, getD}
-use lib.Signed.{leZ, ltZ}
-use Rattle.config.specs.Rows.{gridChecked, maxPoints, outside, perCallOver, rangesChecked, row6, row7, row8, row9, row10, row11, settingOutside, settingsChecked, settledRow8, settledRow9, settledSettings, spanOutside}
+use lib.Signed.{leZ}
+use Rattle.config.specs.Rows.{gridChecked, maxPoints, outside, rangesChecked, row6, row7, row8, row9, row10, row11, settingsChecked, settledRow8, settledRow9, settledSettings, spanOutside}
 use Rattle.config.specs.Settle.{settleOf, settledReach, settledWindow}
 use Rattle.config.specs.declared.settings.RollupConfig.{RollupConfig}
 use Rattle.config.proofs.Limits.{settled-in-range}
@@ -25,7 +25,7 @@ use Rattle.series.specs.Rows.{row1, row5, seriesChecked, timesChecked}
 use Rattle.series.specs.declared.refusal.Checked.{Checked}
 use Rattle.series.specs.declared.refusal.Checked.the-variants.{Accepted, Refused}
 use Rattle.series.specs.declared.refusal.Refusal.{Refusal}
-use Rattle.series.specs.declared.refusal.Refusal.the-variants.{OutputShort, PreparedShort, SettingOutside, SpanOutside, StepOutside, TooManyPoints, WorkShort}
+use Rattle.series.specs.declared.refusal.Refusal.the-variants.{OutputShort, PreparedShort, SpanOutside, StepOutside, WorkShort}
 use Rattle.series.specs.declared.steps.PreFunction.{PreFunction}
 use Rattle.series.proofs.Accepted.{AllAccept, all-accept, fails}
 use Rattle.times.specs.Grid.{Spans, gridFrom, gridSize, timeAt}

@@ -1,8 +1,8 @@
 -- A prepared series holds 64-bit patterns of binary64 values: each step's values are sums, differences and quotients of the format, or are among those handed in.
 -- Assumes nothing.
-use mathlib.Core.Path.{_≡_, sym, subst}
+use mathlib.Core.Path.{sym, subst}
 use mathlib.Core.List.{List, [], _∷_, zipWith}
-use mathlib.Core.Bool.{false, not}
+use mathlib.Core.Bool.{not}
 use Prim.Native.Nat.{ℕ, _*_, _<_}
 use lib.Dec.{T}
 use lib.IntN.{ℤ}

@@ -11,7 +11,7 @@ use mathlib.Core.Bool.{Bool, true, false, not, _&&_, _||_, true≢false}
 use lib.Dec.{T}
 use lib.IntN.{ℤ, pos, negsuc, _-ℤ_}
 use lib.Signed.{ltZ, leZ, <ℤ-irrefl}
-use lib.Ieee.{Float, nan, binary64, fits, isNan, ofBits, toBits}
+use lib.Ieee.{Float, binary64, fits, isNan, ofBits, toBits}
 use lib.Ieee.Bits.{ofBits-fits, ofBits-toBits, toBits-ofBits}
 use lib.Ieee.Fits.{nan-fits}
 use borrow.Author.Tests.{le-leb, not-false}

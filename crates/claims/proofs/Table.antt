@@ -1,8 +1,7 @@
 -- The table of document 01's cases with † holds: the checker computes each case from the definitions.
 -- Assumes nothing.
 use mathlib.Core.Path.{_≡_, refl}
-use mathlib.Core.List.{List, map, zipWith}
-use Prim.Native.Nat.{ℕ}
+use mathlib.Core.List.{map, zipWith}
 use lib.Ieee.{add, div, eq, isNan, le, lt, mul, ne, neg, ofBits, ofInt, sub, toBits, toSigned, toUnsigned}
 use Rattle.ieee.specs.Root.{sqrtOf}
 use Rattle.ieee.specs.Value.{absOf, floorOf}

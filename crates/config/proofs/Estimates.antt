@@ -22,7 +22,8 @@ use Rattle.math.specs.Sort.{All, insertBy, sortBy}
 use Rattle.math.specs.Order.{sorted}
 use Rattle.math.specs.declared.sort.Order.the-variants.{Partial}
 use Rattle.math.specs.Quantile.{between, atRank, rankOf, quantileSorted, quantileOf}
-use Rattle.math.proofs.Sorting.{all-at, all-take}
+use Rattle.math.proofs.Filling.{length-kept}
+use Rattle.math.proofs.Sorting.{all-at, all-sort, all-take}
 use Rattle.times.specs.Milli.{timeLimit, Within}
 use Rattle.times.specs.Later.{NotFalling}
 use Rattle.times.proofs.Order.{offset-of}
@@ -99,26 +100,10 @@ between-longest w x y t h k =
 
 -- ---- sorted values
 
-module _ (P : Float → Type 0) where
-  all-kept : (xs : List Float) → All P xs → All P (kept xs)
-  unfolding kept
-  all-kept [] a = tt
-  all-kept (x ∷ xs) a = by-test (isNan x) (λ e. rw e (all-kept xs (a .1))) (λ e. rw e (a .0, all-kept xs (a .1)))
-
-  all-insert : (less : Float → Float → Bool) (x : Float) (ys : List Float) → P x → All P ys → All P (insertBy less x ys)
-  unfolding insertBy
-  all-insert less x [] p a = (p, tt)
-  all-insert less x (y ∷ ys) p a = by-test (less y x) (λ e. rw e (a .0, all-insert less x ys p (a .1))) (λ e. rw e (p, a))
-
-  all-sort : (less : Float → Float → Bool) (xs : List Float) → All P xs → All P (sortBy less xs)
-  unfolding sortBy
-  all-sort less [] a = tt
-  all-sort less (x ∷ xs) a = all-insert less x (sortBy less xs) (a .0) (all-sort less xs (a .1))
-
-length-kept : (xs : List Float) → length (kept xs) ≤ length xs
+all-kept : (P : Float → Type 0) (xs : List Float) → All P xs → All P (kept xs)
 unfolding kept
-length-kept [] = omega arith
-length-kept (x ∷ xs) = by-test (isNan x) (λ e. rw e (omega (arith, length-kept xs))) (λ e. rw e (omega (arith, length-kept xs)))
+all-kept P [] a = tt
+all-kept P (x ∷ xs) a = by-test (isNan x) (λ e. rw e (all-kept P xs (a .1))) (λ e. rw e (a .0, all-kept P xs (a .1)))
 
 length-insert : (less : Float → Float → Bool) (x : Float) (ys : List Float) → length (insertBy less x ys) ≡ suc (length ys)
 unfolding insertBy

@@ -3,12 +3,11 @@ use mathlib.Core.Path.{_≡_, refl}
 use mathlib.Core.Bool.{false}
 use mathlib.Core.List.{[], _∷_}
 use lib.IntN.{pos}
-use lib.Ieee.{Float, nan, inf, binary64, isNan, ofBits, lt}
+use lib.Ieee.{Float, nan, inf, binary64, isNan, ofBits}
 use Rattle.ieee.specs.Value.{absOf, totalLt}
 use Rattle.ieee.specs.Root.{sqrtOf}
 use Rattle.math.specs.Values.{kept}
 use Rattle.math.specs.Sort.{sortBy}
-use Rattle.math.specs.declared.regression.Line.{Line}
 use Rattle.math.specs.Quantile.{quantileOf, medianOf, madOf}
 use Rattle.math.specs.Deviation.{stdvarOf, stddevOf}
 use Rattle.math.specs.Mode.{modeOf}

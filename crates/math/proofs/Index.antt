@@ -2,12 +2,12 @@
 -- Assumes nothing.
 use mathlib.Core.Path.{_≡_, refl, sym, ap, _∙_}
 use mathlib.Core.Logic.{_⊎_, inl, inr, ⊎-elim}
-use mathlib.Core.Bool.{Bool, true, false, _||_, true≢false, _&&_}
-use Prim.Native.Nat.{ℕ, zero, suc, _+_, _-_, _*_, _/_, _%_, _^_, _≤_, _<_, min}
-use native.Mathlib.Nat.{mul-one, one-mul, zero-mul, mul-assoc, mul-comm, mul-left-comm, mul-pos, mul-le-mul-right, le-of-mul-le-mul-right, div-one, le-of-eq, le-of-lt, le-trans, mul-le-mul-left}
+use mathlib.Core.Bool.{Bool, true, false, _||_, true≢false}
+use Prim.Native.Nat.{ℕ, zero, suc, _+_, _-_, _*_, _/_, _%_, _^_, _≤_, _<_}
+use native.Mathlib.Nat.{mul-one, one-mul, zero-mul, mul-assoc, mul-comm, mul-left-comm, mul-pos, mul-le-mul-right, le-of-mul-le-mul-right, div-one, le-of-eq, le-of-lt, le-trans}
 use native.Mathlib.Omega.{arith}
 use borrow.Author.Tests.{ltb-false}
-use lib.Dec.{T, ltb, eqb, ltb→lt, eqb→eq, le→leb, lit<, leb}
+use lib.Dec.{T, ltb, eqb, ltb→lt, eqb→eq, le→leb, lit<}
 use lib.IntN.{ℤ, pos}
 use lib.Ieee.{Float, nan, inf, fin, binary64, up, down, round, mul, lt, eq, le, isNan, inFloat, ofBits, ofInt, toUnsigned}
 use lib.Ieee.Exact.{HasValue}

@@ -22,6 +22,19 @@ pub struct Case {
     pub same: bool,
 }
 
+// A case that cannot be read: like one that is cut short, it counts as a difference, and is the last.
+pub fn unread() -> Case {
+    Case {
+        len: 0,
+        same: false,
+    }
+}
+
+// A test's outcome as it is stored.
+pub fn flag(b: bool) -> u64 {
+    if b { 1 } else { 0 }
+}
+
 // The byte where the next case begins, the numbers of cases and of differences so far, and the first
 // case that differed: its number, from 1 on, and where it stands.
 pub struct Tally {

@@ -5,10 +5,6 @@ use replay::Case;
 use replay::Tally;
 use vectors::STEP;
 
-fn flag(b: bool) -> u64 {
-    if b { 1 } else { 0 }
-}
-
 // Whether an operation gives the stored answer.
 fn same(op: u64, a: u64, b: u64, stored: u64) -> bool {
     let x = ieee::value_of(a);
@@ -16,15 +12,15 @@ fn same(op: u64, a: u64, b: u64, stored: u64) -> bool {
         0 => ieee::bits_of(ieee::root::sqrt(x)) == stored,
         1 => ieee::bits_of(ieee::floor(x)) == stored,
         2 => ieee::bits_of(ieee::abs(x)) == stored,
-        3 => flag(ieee::total_lt(x, ieee::value_of(b))) == stored,
+        3 => replay::flag(ieee::total_lt(x, ieee::value_of(b))) == stored,
         4 => ieee::bits_of(x) == stored,
         5 => ieee::to_usize(x) as u64 == stored,
         6 => ieee::to_i64(x) == vectors::signed(stored),
         7 => ieee::bits_of(ieee::of_count(a as usize)) == stored,
         8 => ieee::bits_of(ieee::of_difference(vectors::signed(a))) == stored,
         9 => ieee::bits_of(ieee::seconds(vectors::signed(a))) == stored,
-        10 => flag(ieee::is_nan(x)) == stored,
-        11 => flag(ieee::is_finite(a)) == stored,
+        10 => replay::flag(ieee::is_nan(x)) == stored,
+        11 => replay::flag(ieee::is_finite(a)) == stored,
         _ => false,
     }
 }

@@ -7,10 +7,6 @@ use vectors::STEP;
 ghost use Prim.Native.Nat.{_*_, _≤_};
 ghost use lib.ListN.{length};
 
-fn flag(b: bool) -> u64 {
-    if b { 1 } else { 0 }
-}
-
 // How many parameters a function has.
 fn parameters(op: u64) -> usize
     ensures { λ r. ⌜ r ≤ 1 ⌝ }
@@ -33,7 +29,7 @@ fn same(op: u64, values: &[u64], parameter: f64, stored: u64, work: &mut [f64]) 
         3 => ieee::bits_of(math::deviation::stdvar(values)) == stored,
         4 => ieee::bits_of(math::deviation::stddev(values)) == stored,
         5 => ieee::bits_of(math::mode::mode_no_nans(parameter, values, work)) == stored,
-        7 => flag(math::regression::are_const_values(values)) == stored,
+        7 => replay::flag(math::regression::are_const_values(values)) == stored,
         _ => false,
     }
 }
@@ -43,10 +39,7 @@ fn case(text: &[u8]) -> Case {
     let op = vectors::word(text, 0);
     let n = vectors::word(text, STEP);
     if n > 64 {
-        return Case {
-            len: 0,
-            same: false,
-        };
+        return replay::unread();
     }
     let n = n as usize;
     let mut work = [0.0f64; 128];

@@ -43,16 +43,10 @@ fn case(text: &[u8]) -> Case {
     let number = vectors::word(text, 0);
     let n = vectors::word(text, STEP);
     if number > 4 {
-        return Case {
-            len: 0,
-            same: false,
-        };
+        return replay::unread();
     }
     if n > 64 {
-        return Case {
-            len: 0,
-            same: false,
-        };
+        return replay::unread();
     }
     let n = n as usize;
     let at = 2 * STEP + n * STEP;

@@ -111,10 +111,7 @@ fn same(text: &[u8], at: usize, rfa: RollupFuncArg, values: &[u64], timestamps: 
 fn case(text: &[u8]) -> Case {
     let n = vectors::word(text, 8 * STEP);
     if n > 64 {
-        return Case {
-            len: 0,
-            same: false,
-        };
+        return replay::unread();
     }
     let n = n as usize;
     let at = 9 * STEP + n * STEP;

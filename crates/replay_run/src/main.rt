@@ -2,6 +2,7 @@
 // their times, their values, ten settings, the settled window, the reach, the count, a word that says where
 // 01 departs from the Rust, the number of output times, and that many answers of each of the 48 rollups. Where
 // a run is refused there are no output times, and the refusal's number and index stand for window and reach.
+// Where it is accepted, the settled run with the stored window and reach must give the same count and answers.
 use config::settings::RollupConfig;
 use harzoulin::Step;
 use harzoulin::choice::Chosen;
@@ -10,6 +11,7 @@ use replay::Case;
 use replay::Tally;
 use rollup::handler::RollupHandler;
 use run::Figures;
+use run::SettledConfig;
 use series::PreFunction;
 use vectors::STEP;
 ghost use Prim.Native.Nat.{_≤_, _<_};
@@ -45,8 +47,63 @@ fn same_figures(text: &[u8], at: usize, from: usize, figures: Figures, answers: 
     }
 }
 
-// Whether the run with a rollup gives it.
-fn same_run(
+// A call: a run with its settings, or a settled run with its own.
+enum Call {
+    Run(RollupConfig),
+    Settled(SettledConfig),
+}
+
+// The settled run whose window and reach are stored from a byte on, over the grid of rc.
+fn settled(text: &[u8], at: usize, rc: RollupConfig) -> Call
+    requires { ⌜ at < 4096 ⌝ }
+{
+    Call::Settled(SettledConfig {
+        start: rc.start,
+        end: rc.end,
+        step: rc.step,
+        window: replay_settings::number(text, at, 0),
+        reach: replay_settings::number(text, at, 1),
+        samples_scanned_per_call: rc.samples_scanned_per_call,
+    })
+}
+
+// What a call gives.
+fn figures_of(
+    timestamps: &[i64],
+    values: &[u64],
+    pre: PreFunction,
+    handler: RollupHandler,
+    call: Call,
+    answers: &mut [u64],
+    prepared: &mut [u64],
+) -> Figures {
+    let mut work = [1.0; 128];
+    match call {
+        Call::Run(rc) => run::run(
+            timestamps,
+            values,
+            pre,
+            handler,
+            rc,
+            answers,
+            prepared,
+            &mut work,
+        ),
+        Call::Settled(sc) => run::settled_run(
+            timestamps,
+            values,
+            pre,
+            handler,
+            sc,
+            answers,
+            prepared,
+            &mut work,
+        ),
+    }
+}
+
+// Whether a call gives what is stored.
+fn same_within(
     text: &[u8],
     at: usize,
     from: usize,
@@ -54,27 +111,49 @@ fn same_run(
     values: &[u64],
     pre: PreFunction,
     handler: RollupHandler,
-    rc: RollupConfig,
+    call: Call,
     answers: &mut [u64],
     prepared: &mut [u64],
 ) -> bool
     requires { ⌜ (at < 4096) × (from ≤ 65536) × (length (now answers) ≤ 64) ⌝ }
 {
-    let mut work = [1.0; 128];
-    let figures = run::run(
+    let figures = figures_of(timestamps, values, pre, handler, call, answers, prepared);
+    same_figures(text, at, from, figures, answers)
+}
+
+// The same for g output times.
+fn same_call(
+    text: &[u8],
+    at: usize,
+    from: usize,
+    timestamps: &[i64],
+    values: &[u64],
+    pre: PreFunction,
+    handler: RollupHandler,
+    call: Call,
+    g: usize,
+) -> bool
+    requires { ⌜ (at < 4096) × (from ≤ 65536) × (length (now values) ≤ 64) × (g ≤ 64) ⌝ }
+{
+    let n = values.len();
+    // what the slices hold beforehand is nothing that is stored: the words that the case begins with
+    let mut answers = vectors::words(text, 0, g);
+    let mut prepared = vectors::words(text, 0, n);
+    same_within(
+        text,
+        at,
+        from,
         timestamps,
         values,
         pre,
         handler,
-        rc,
-        answers,
-        prepared,
-        &mut work,
-    );
-    same_figures(text, at, from, figures, answers)
+        call,
+        &mut answers[..g],
+        &mut prepared[..n],
+    )
 }
 
-// The same of the rollup with a number, for g output times.
+// Whether the run with a numbered rollup gives it and, where it is accepted, the settled run too.
 fn same_rollup(
     text: &[u8],
     at: usize,
@@ -94,22 +173,15 @@ fn same_rollup(
     let Chosen::Rollup(handler) = chosen else {
         return false;
     };
-    let n = values.len();
-    // what the slices hold beforehand is nothing that is stored: the words that the case begins with
-    let mut answers = vectors::words(text, 0, g);
-    let mut prepared = vectors::words(text, 0, n);
-    same_run(
-        text,
-        at,
-        from,
-        timestamps,
-        values,
-        pre,
-        handler,
-        rc,
-        &mut answers[..g],
-        &mut prepared[..n],
-    )
+    let call = Call::Run(rc);
+    if !same_call(text, at, from, timestamps, values, pre, handler, call, g) {
+        return false;
+    }
+    if g == 0 {
+        return true;
+    }
+    let call = settled(text, at, rc);
+    same_call(text, at, from, timestamps, values, pre, handler, call, g)
 }
 
 // The same of all rollups.
@@ -164,19 +236,13 @@ fn replayed(text: &[u8], at: usize, n: usize, g: usize) -> bool
 fn case(text: &[u8]) -> Case {
     let n = vectors::word(text, 3 * STEP);
     if n > 64 {
-        return Case {
-            len: 0,
-            same: false,
-        };
+        return replay::unread();
     }
     let n = n as usize;
     let at = 14 * STEP + 2 * n * STEP;
     let g = vectors::word(text, at + 4 * STEP);
     if g > 64 {
-        return Case {
-            len: 0,
-            same: false,
-        };
+        return replay::unread();
     }
     let g = g as usize;
     Case {

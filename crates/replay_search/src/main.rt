@@ -84,10 +84,7 @@ fn same_grid(text: &[u8], rc: RollupConfig, stored: u64) -> bool {
 fn timed(text: &[u8], search: bool) -> Case {
     let n = vectors::word(text, STEP);
     if n > 64 {
-        return Case {
-            len: 0,
-            same: false,
-        };
+        return replay::unread();
     }
     let n = n as usize;
     let timestamps = vectors::times(text, 2 * STEP, n);
@@ -112,10 +109,7 @@ fn timed(text: &[u8], search: bool) -> Case {
 fn reach(text: &[u8]) -> Case {
     let interval = vectors::word(text, STEP);
     if interval >= 0x8000_0000_0000_0000 {
-        return Case {
-            len: 0,
-            same: false,
-        };
+        return replay::unread();
     }
     let stored = vectors::word(text, 2 * STEP);
     Case {
@@ -168,10 +162,7 @@ fn same_scanned(number: u32, stored: u64) -> bool {
 fn per_call(text: &[u8]) -> Case {
     let number = vectors::word(text, STEP);
     if number >= 48 {
-        return Case {
-            len: 0,
-            same: false,
-        };
+        return replay::unread();
     }
     Case {
         len: 3 * STEP,
@@ -187,10 +178,7 @@ fn case(text: &[u8]) -> Case {
         2 => reach(text),
         3 => grid(text),
         4 => per_call(text),
-        _ => Case {
-            len: 0,
-            same: false,
-        },
+        _ => replay::unread(),
     }
 }
 

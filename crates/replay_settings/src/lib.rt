@@ -7,7 +7,7 @@ use vectors::STEP;
 ghost use Prim.Native.Nat.{_<_};
 
 // The k-th word from a byte on, as a signed number.
-fn number(text: &[u8], at: usize, k: usize) -> i64
+pub fn number(text: &[u8], at: usize, k: usize) -> i64
     requires { ⌜ (at < 4096) × (k < 16) ⌝ }
 {
     vectors::signed(vectors::word(text, at + k * STEP))

@@ -52,10 +52,7 @@ fn case(text: &[u8]) -> Case {
     let op = vectors::word(text, 0);
     let n = vectors::word(text, STEP);
     if n > 64 {
-        return Case {
-            len: 0,
-            same: false,
-        };
+        return replay::unread();
     }
     let n = n as usize;
     let at = 2 * STEP + n * STEP;

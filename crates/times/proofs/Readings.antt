@@ -1,13 +1,12 @@
--- Lists of readings: filters, the first and the last of a part, and a list of times joined with a list of values.
+-- Lists of readings: filters, and a list of times joined with a list of values.
 -- Assumes nothing.
-use Prim.Native.Nat.{ℕ, zero, suc, _-_, _≤_, _<_}
+use Prim.Native.Nat.{ℕ, zero, suc}
 use native.Mathlib.Omega.{arith}
-use native.Mathlib.Numerals.{sub-one}
 use mathlib.Core.Path.{_≡_, refl, sym, ap, ap₂}
 use mathlib.Core.Bool.{Bool, _&&_}
 use mathlib.Core.List.{List, [], _∷_, map, zipWith}
 use lib.ListN.{length, getD, take, drop}
-use Rattle.times.specs.Readings.{filter, firstOr, lastOr}
+use Rattle.times.specs.Readings.{filter}
 use Rattle.times.proofs.Order.{by-test}
 
 module _ {A : Type 0} where
@@ -16,23 +15,6 @@ module _ {A : Type 0} where
   unfolding filter
   filter-and p q [] = refl
   filter-and p q (x ∷ xs) = by-test (p x) (λ e. rw (e, filter-and p q xs)) (λ e. rw (e, filter-and p q xs))
-
-  pub first-of-drop : (d : A) (n : ℕ) (xs : List A) → firstOr d (drop n xs) ≡ getD xs n d
-  unfolding firstOr
-  first-of-drop d zero [] = refl
-  first-of-drop d zero (x ∷ xs) = refl
-  first-of-drop d (suc n) [] = refl
-  first-of-drop d (suc n) (x ∷ xs) = first-of-drop d n xs
-
-  last-of-suc : (d e : A) (n : ℕ) (xs : List A) → n < length xs → lastOr d (take (suc n) xs) ≡ getD xs n e
-  unfolding lastOr
-  last-of-suc d e n [] h = absurd (omega arith)
-  last-of-suc d e zero (x ∷ xs) h = refl
-  last-of-suc d e (suc n) (x ∷ xs) h = last-of-suc x e n xs (omega arith)
-
-  pub last-of-take : (d e : A) (n : ℕ) (xs : List A) → 0 < n → n ≤ length xs → lastOr d (take n xs) ≡ getD xs (n - 1) e
-  last-of-take d e zero xs h k = absurd (omega arith)
-  last-of-take d e (suc n) xs h k = rw (sub-one (suc n)) (last-of-suc d e n xs k)
 
 module _ {A B : Type 0} (f : A → B) where
   pub map-drop : (n : ℕ) (xs : List A) → map f (drop n xs) ≡ drop n (map f xs)

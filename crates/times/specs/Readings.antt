@@ -1,4 +1,4 @@
--- What is picked out of a list of readings: those that pass a test, the first and the last.
+-- What is picked out of a list of readings: those that pass a test.
 -- Assumes nothing.
 use mathlib.Core.Bool.{Bool, true, false}
 use mathlib.Core.List.{List, [], _∷_}
@@ -13,13 +13,3 @@ module _ {A : Type 0} where
   unfoldable pub filter : (A → Bool) → List A → List A
   filter p [] = []
   filter p (x ∷ xs) = consIf (p x) x (filter p xs)
-
-  -- the first, or d where there is none
-  unfoldable pub firstOr : A → List A → A
-  firstOr d [] = d
-  firstOr d (x ∷ xs) = x
-
-  -- the last, or d where there is none
-  unfoldable pub lastOr : A → List A → A
-  lastOr d [] = d
-  lastOr d (x ∷ xs) = lastOr x xs

@@ -6,12 +6,11 @@ use mathlib.Core.List.{List, _++_}
 use native.Mathlib.Omega.{arith}
 use borrow.Author.Needs.{needs}
 use lib.Ieee.{Float, binary64, ofBits}
-use lib.ListN.{length, take, drop, length-take}
+use lib.ListN.{length, take, drop, length-take, length-map}
 use Rattle.math.specs.Order.{Sortable}
 use Rattle.math.specs.Values.{floats, kept}
 use Rattle.math.specs.declared.sort.Order.the-variants.{Partial}
 use Rattle.math.proofs.Filling.{kept-fits, kept-sortable}
-use Rattle.math.proofs.Folding.{length-map}
 use Rattle.math.proofs.Halves.{first-half}
 use Rattle.replay_sort.proofs.sort_numbers.Statement.{statement}
 use Rattle.replay_sort.proofs.sort_numbers.Tie as tie
@@ -19,13 +18,10 @@ use Rattle.replay_sort.proofs.sort_numbers.Tie as tie
 -- a slice before and after n values were kept at its front
 module _ (values : List ℕ) (w₀ w : List Float) (n : ℕ) (size : n ≡ length (kept (floats values))) (is : w ≡ kept (floats values) ++ drop n w₀) (room : 2 * length values ≤ length w₀) (long : length w ≡ length w₀) where
   fits : 2 * n ≤ length w
-  fits = kept-fits (floats values) w₀ w n (length values) (length-map (ofBits binary64) values) size is room long
+  fits = kept-fits (floats values) w₀ w n (length values) (length-map values (ofBits binary64)) size is room long
 
   sortable : Sortable Partial (take (length (take (2 * n) w) / 2) (take (2 * n) w))
-  sortable = rw (first-half n w fits) (kept-sortable (floats values) w₀ w n (length values) (length-map (ofBits binary64) values) size is)
-
-keep-requires : tie.Need-keep-requires
-keep-requires c κs = search needs
+  sortable = rw (first-half n w fits) (kept-sortable (floats values) w₀ w n (length values) (length-map values (ofBits binary64)) size is)
 
 mul-sort : tie.Need-mul-sort
 mul-sort c =
@@ -52,11 +48,5 @@ sort-requires c κs =
     let s = at .before .before .before .before in
     sortable (s .args .values .now) (s .args .work .now) (at .keep .last .1 .0) (at .keep .result) (at .keep .ensures .0) (at .keep .ensures .1) (s .pre) (at .keep .kept .1 .0)
 
-same-length : tie.Need-same-length
-same-length c = search needs
-
-returns : tie.Need-returns
-returns c = search needs
-
 pub sort-numbers-spec : {M : Type 1} → statement M
-sort-numbers-spec = tie.close (tie.spec keep-requires mul-sort slice-relend-prefix-sort slice-aggregate-sort sort-requires same-length returns)
+sort-numbers-spec = tie.close (tie.spec (λ c κs. search needs) mul-sort slice-relend-prefix-sort slice-aggregate-sort sort-requires (λ c. search needs) (λ c. search needs))

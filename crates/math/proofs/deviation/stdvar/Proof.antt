@@ -4,9 +4,8 @@ use mathlib.Core.Path.{_≡_, refl, sym, ap, _∙_}
 use mathlib.Core.List.{List, [], _∷_, foldl}
 use mathlib.Core.Bool.{true, false}
 use mathlib.Core.Logic.{⊎-elim}
-use Prim.Native.Nat.{ℕ, _≤_, _<_, _+_, _-_}
+use Prim.Native.Nat.{ℕ, _≤_, _+_, _-_}
 use native.Mathlib.Omega.{arith}
-use native.Mathlib.Numerals.{add-one}
 use borrow.Author.Needs.{needs}
 use borrow.Author.Tests.{not-true, not-false, eq-eqb, ne-eqb}
 use lib.ListN.{length, drop}
@@ -16,11 +15,6 @@ use Rattle.math.specs.Deviation.{Spread, spreadStep, spreadWith, varianc
 use Rattle.math.proofs.Folding.{values-turn, values-end}
 use Rattle.math.proofs.deviation.stdvar.Statement.{statement}
 use Rattle.math.proofs.deviation.stdvar.Tie as tie
-use Rattle.math.proofs.deviation.stdvar.Reads as reads
-use Rattle.math.proofs.deviation.stdvar.Lts as lts
-use Rattle.ieee.proofs.is_nan.Reads as is-nan-reads
-use Rattle.ieee.proofs.of_count.Reads as of-count-reads
-use Rattle.ieee.proofs.value_of.Reads as value-of-reads
 
 -- nothing taken in
 abbrev start : Spread
@@ -51,6 +45,11 @@ taken : (s : Spread) (x : Float) → isNan x ≡ false → spreadStep s x ≡ sp
 unfolding spreadStep
 taken s x e = rw e
 
+-- every value taken in
+ended : (s : Spread) (vs : List ℕ) (i : ℕ) → (length vs ≡ 0 → ⊥) → (length vs ≡ 1 → ⊥) → length vs ≤ i
+    → foldl spreadStep s (floats (drop i vs)) ≡ foldl spreadStep start (floats vs) → stdvarOf (floats vs) ≡ variance s
+ended s vs i p q h e = more vs p q ∙ ap variance (sym e ∙ values-end spreadStep s vs i h)
+
 abbrev Inv-loop : tie.InvT-loop
 Inv-loop values avg₀ count₀ q₀ i₀ avg count q i = (i ≤ length values) × (count ≤ i) × (foldl spreadStep (record { count = count; avg = avg; q = q }) (floats (drop i values)) ≡ foldl spreadStep start (floats values))
 
@@ -66,30 +65,6 @@ returns-2 c = sym (one (c .before .before .before .args .values .now) (c .if2 .t
 
 loop-holds : tie.Need-loop-holds Inv-loop μ-loop
 loop-holds c = (search needs, search needs, refl)
-
-mul-value-of : tie.Need-mul-value-of Inv-loop μ-loop
-mul-value-of c = search needs
-
-shared-slice-read-value-of : tie.Need-shared-slice-read-value-of Inv-loop μ-loop
-shared-slice-read-value-of c = search needs
-
-value-of-requires : tie.Need-value-of-requires Inv-loop μ-loop
-value-of-requires c κs = search needs
-
-is-nan-requires : tie.Need-is-nan-requires Inv-loop μ-loop
-is-nan-requires c κs = search needs
-
-add-count : tie.Need-add-count Inv-loop μ-loop
-add-count c = search needs
-
-of-count-requires : tie.Need-of-count-requires Inv-loop μ-loop
-of-count-requires c κs = search needs
-
-add-i : tie.Need-add-i Inv-loop μ-loop
-add-i c = search needs
-
-loop-less : tie.Need-loop-less Inv-loop μ-loop
-loop-less c = search needs
 
 loop-again : tie.Need-loop-again Inv-loop μ-loop
 loop-again c =
@@ -109,20 +84,13 @@ unfolding div ofBits
 returns-3 c =
     let at = c .before .before in
     let values = at .before .before .before .before .args .values .now in
-    let s : Spread = record { count = at .loop .count; avg = at .loop .avg; q = at .loop .q } in
-    let all : s ≡ foldl spreadStep start (floats values) = sym (values-end spreadStep s values (at .loop .i) (c .before .loop-test .left)) ∙ at .loop .inv .2 in
-    sym (more values (at .before .before .if1 .left) (at .before .if2 .left) ∙ ap variance (sym all) ∙ rw (eq-eqb (at .loop .count) 0 (c .if4 .taken)))
-
-of-count-requires-2 : tie.Need-of-count-requires-2 Inv-loop μ-loop
-of-count-requires-2 c κs = search needs
+    sym (ended _ values (at .loop .i) (at .before .before .if1 .left) (at .before .if2 .left) (c .before .loop-test .left) (at .loop .inv .2) ∙ rw (eq-eqb (at .loop .count) 0 (c .if4 .taken)))
 
 returns-4 : tie.Need-returns-4 Inv-loop μ-loop
 returns-4 c =
     let at = c .before .before .before in
     let values = at .before .before .before .before .args .values .now in
-    let s : Spread = record { count = at .loop .count; avg = at .loop .avg; q = at .loop .q } in
-    let all : s ≡ foldl spreadStep start (floats values) = sym (values-end spreadStep s values (at .loop .i) (c .before .before .loop-test .left)) ∙ at .loop .inv .2 in
-    sym (more values (at .before .before .if1 .left) (at .before .if2 .left) ∙ ap variance (sym all) ∙ rw (ne-eqb (at .loop .count) 0 (c .before .if4 .left), c .of-count2 .ensures))
+    sym (ended _ values (at .loop .i) (at .before .before .if1 .left) (at .before .if2 .left) (c .before .before .loop-test .left) (at .loop .inv .2) ∙ rw (ne-eqb (at .loop .count) 0 (c .before .if4 .left), c .of-count2 .ensures))
 
 pub stdvar-spec : {M : Type 1} → statement M
-stdvar-spec = tie.close (tie.spec Inv-loop μ-loop returns returns-2 loop-holds mul-value-of shared-slice-read-value-of value-of-requires is-nan-requires add-count of-count-requires add-i loop-less loop-again returns-3 of-count-requires-2 returns-4)
+stdvar-spec = tie.close (tie.spec Inv-loop μ-loop returns returns-2 loop-holds (λ c. search needs) (λ c. search needs) (λ c κs. search needs) (λ c κs. search needs) (λ c. search needs) (λ c κs. search needs) (λ c. search needs) (λ c. search needs) loop-again returns-3 (λ c κs. search needs) returns-4)

@@ -2,20 +2,16 @@
 -- Assumes nothing.
 use mathlib.Core.Path.{_≡_, refl, sym, ap, _∙_}
 use mathlib.Core.List.{List, foldl}
-use mathlib.Core.Bool.{Bool, true, false}
+use mathlib.Core.Bool.{true, false}
 use mathlib.Core.Logic.{⊎-elim}
-use Prim.Native.Nat.{ℕ, _≤_, _<_, _+_, _-_}
-use native.Mathlib.Omega.{arith}
+use Prim.Native.Nat.{ℕ, _≤_, _+_, _-_}
 use borrow.Author.Needs.{needs}
 use lib.ListN.{length, drop, getD}
 use lib.Ieee.{Float, nan, eq}
-use Rattle.math.specs.Mode.{Runs, isOutdone, longest, modeWith, runStep, modeSorted}
+use Rattle.math.specs.Mode.{Runs, longest, modeWith, runStep, modeSorted}
 use Rattle.math.proofs.Folding.{fold-turn, fold-end}
 use Rattle.math.proofs.mode.mode_sorted.Statement.{statement}
 use Rattle.math.proofs.mode.mode_sorted.Tie as tie
-use Rattle.math.proofs.mode.mode_sorted.Reads as reads
-use Rattle.math.proofs.mode.mode_sorted.Lts as lts
-use Rattle.math.proofs.mode.outdone.Reads as outdone-reads
 
 -- no sample yet
 abbrev before : Float → Runs
@@ -29,6 +25,11 @@ new-run : (s : Runs) (x : Float) → eq (s .prev) x ≡ false → runStep s x �
 unfolding runStep
 new-run s x e = rw e
 
+-- every sample gone through
+ended : (prev : Float) (s : Runs) (a : List Float) (i : ℕ) → length a ≤ i → foldl runStep s (drop i a) ≡ foldl runStep (before prev) a → modeSorted prev a ≡ modeWith s
+unfolding modeSorted
+ended prev s a i h e = ap modeWith (sym e ∙ fold-end runStep s a i h)
+
 abbrev Inv-loop : tie.InvT-loop
 Inv-loop prev-value a prev₀ run₀ d-max₀ mode₀ i₀ prev run d-max mode i = (i ≤ length a) × (run ≤ i + 1) × (foldl runStep (record { prev = prev; run = run; most = d-max; mode = mode }) (drop i a) ≡ foldl runStep (before prev-value) a)
 
@@ -37,30 +38,6 @@ abbrev μ-loop : tie.MeasureT-loop
 
 loop-holds : tie.Need-loop-holds Inv-loop μ-loop
 loop-holds c = (search needs, search needs, refl)
-
-mul-if1 : tie.Need-mul-if1 Inv-loop μ-loop
-mul-if1 c = search needs
-
-shared-slice-read-if1 : tie.Need-shared-slice-read-if1 Inv-loop μ-loop
-shared-slice-read-if1 c = search needs
-
-add-run : tie.Need-add-run Inv-loop μ-loop
-add-run c = search needs
-
-outdone-requires : tie.Need-outdone-requires Inv-loop μ-loop
-outdone-requires c κs = search needs
-
-mul-prev : tie.Need-mul-prev Inv-loop μ-loop
-mul-prev c = search needs
-
-shared-slice-read-prev : tie.Need-shared-slice-read-prev Inv-loop μ-loop
-shared-slice-read-prev c = search needs
-
-add-i : tie.Need-add-i Inv-loop μ-loop
-add-i c = search needs
-
-loop-less : tie.Need-loop-less Inv-loop μ-loop
-loop-less c = search needs
 
 loop-again : tie.Need-loop-again Inv-loop μ-loop
 loop-again c =
@@ -77,26 +54,17 @@ loop-again c =
     (search needs, search needs, rw (w .4, w .5, w .6, w .7, most, mode) (rw (new-run s x (w .0 .left)) at next)))
     (c .if1 .came)
 
-outdone-requires-2 : tie.Need-outdone-requires-2 Inv-loop μ-loop
-outdone-requires-2 c κs = search needs
-
 returns : tie.Need-returns Inv-loop μ-loop
-unfolding modeSorted
 returns c =
     let at = c .before .before .before in
-    let a = at .before .before .args .a .now in
-    let s : Runs = record { prev = at .loop .prev; run = at .loop .run; most = at .loop .d-max; mode = at .loop .mode } in
-    let all : s ≡ foldl runStep (before (at .before .before .args .prev-value)) a = sym (fold-end runStep s a (at .loop .i) (c .before .before .loop-test .left)) ∙ at .loop .inv .2 in
-    sym (ap modeWith (sym all) ∙ rw (sym (c .before .outdone2 .ensures) ∙ c .if3 .taken))
+    let s = at .before .before in
+    sym (ended (s .args .prev-value) _ (s .args .a .now) (at .loop .i) (c .before .before .loop-test .left) (at .loop .inv .2) ∙ rw (sym (c .before .outdone2 .ensures) ∙ c .if3 .taken))
 
 returns-2 : tie.Need-returns-2 Inv-loop μ-loop
-unfolding modeSorted
 returns-2 c =
     let at = c .before .before .before in
-    let a = at .before .before .args .a .now in
-    let s : Runs = record { prev = at .loop .prev; run = at .loop .run; most = at .loop .d-max; mode = at .loop .mode } in
-    let all : s ≡ foldl runStep (before (at .before .before .args .prev-value)) a = sym (fold-end runStep s a (at .loop .i) (c .before .before .loop-test .left)) ∙ at .loop .inv .2 in
-    sym (ap modeWith (sym all) ∙ rw (sym (c .before .outdone2 .ensures) ∙ c .if3 .left))
+    let s = at .before .before in
+    sym (ended (s .args .prev-value) _ (s .args .a .now) (at .loop .i) (c .before .before .loop-test .left) (at .loop .inv .2) ∙ rw (sym (c .before .outdone2 .ensures) ∙ c .if3 .left))
 
 pub mode-sorted-spec : {M : Type 1} → statement M
-mode-sorted-spec = tie.close (tie.spec Inv-loop μ-loop loop-holds mul-if1 shared-slice-read-if1 add-run outdone-requires mul-prev shared-slice-read-prev add-i loop-less loop-again outdone-requires-2 returns returns-2)
+mode-sorted-spec = tie.close (tie.spec Inv-loop μ-loop loop-holds (λ c. search needs) (λ c. search needs) (λ c. search needs) (λ c κs. search needs) (λ c. search needs) (λ c. search needs) (λ c. search needs) (λ c. search needs) loop-again (λ c κs. search needs) returns returns-2)

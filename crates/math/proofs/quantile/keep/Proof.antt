@@ -1,84 +1,47 @@
 -- `math::quantile::keep` meets its contract. At each turn the values that are kept so far stand at the front, and those to come are the kept ones of the rest.
 -- Assumes nothing.
-use mathlib.Core.Path.{_≡_, refl, sym, ap, _∙_}
-use mathlib.Core.List.{List, _∷_}
-use mathlib.Core.Bool.{true, false}
+use mathlib.Core.Path.{refl}
+use mathlib.Core.List.{List}
 use mathlib.Core.Logic.{⊎-elim}
-use Prim.Native.Nat.{_≤_, _<_, _+_, _-_}
-use native.Mathlib.Omega.{arith}
+use Prim.Native.Nat.{_-_}
 use borrow.Author.Needs.{needs}
-use borrow.Author.Tests.{not-true, not-false}
-use lib.ListN.{length, drop}
-use lib.Ieee.{Float, isNan, binary64, ofBits}
-use Rattle.math.specs.Values.{floats, kept}
-use Rattle.math.proofs.Folding.{floats-cons, floats-none}
-use Rattle.math.proofs.Filling.{Filling, filling-start, filling-end, keep-in, keep-out}
+use lib.ListN.{length}
+use lib.Ieee.{Float}
+use Rattle.math.proofs.Filling.{Keeping, keeping-start, keeping-turn, keeping-end}
 use Rattle.math.proofs.quantile.keep.Statement.{statement}
 use Rattle.math.proofs.quantile.keep.Tie as tie
-use Rattle.math.proofs.quantile.keep.Reads as reads
-use Rattle.math.proofs.quantile.keep.Lts as lts
-use Rattle.ieee.proofs.is_nan.Reads as is-nan-reads
-use Rattle.ieee.proofs.value_of.Reads as value-of-reads
+
+-- the values as they are
+abbrev same : List Float → List Float
+same xs = xs
 
 abbrev Inv-loop : tie.InvT-loop
-Inv-loop values work₀ n₀ i₀ work n i = (i ≤ length values) × (n ≤ i) × Filling (kept (floats values)) work₀ (kept (floats (drop i values))) work n
+Inv-loop values work₀ n₀ i₀ work n i = Keeping same values work₀ work n i
 
 abbrev μ-loop : tie.MeasureT-loop
 μ-loop values work₀ n₀ i₀ work n i = length values - i
 
 loop-holds : tie.Need-loop-holds Inv-loop μ-loop
-loop-holds c = (search needs, search needs, filling-start _ _)
-
-mul-value-of : tie.Need-mul-value-of Inv-loop μ-loop
-mul-value-of c = search needs
-
-shared-slice-read-value-of : tie.Need-shared-slice-read-value-of Inv-loop μ-loop
-shared-slice-read-value-of c = search needs
-
-value-of-requires : tie.Need-value-of-requires Inv-loop μ-loop
-value-of-requires c κs = search needs
-
-is-nan-requires : tie.Need-is-nan-requires Inv-loop μ-loop
-is-nan-requires c κs = search needs
-
-mul-work : tie.Need-mul-work Inv-loop μ-loop
-mul-work c = search needs
-
-slice-write-work : tie.Need-slice-write-work Inv-loop μ-loop
-slice-write-work c = search needs
-
-add-n : tie.Need-add-n Inv-loop μ-loop
-add-n c = search needs
-
-add-i : tie.Need-add-i Inv-loop μ-loop
-add-i c = search needs
-
-loop-less : tie.Need-loop-less Inv-loop μ-loop
-loop-less c = search needs
+loop-holds c = let s = c .before .before in keeping-start same (s .args .values .now) (s .args .work .now) (s .pre)
 
 loop-again : tie.Need-loop-again Inv-loop μ-loop
 loop-again c =
     let at = c .before .before .before .before .before in
-    let values = at .before .before .before .args .values .now in
-    let work = at .before .before .before .args .work .now in
-    let i = at .loop .i in
-    let x = c .before .before .value-of .result in
-    let next : Filling (kept (floats values)) work (kept (x ∷ floats (drop (i + 1) values))) (at .loop .work) (at .loop .n) = rw (c .before .before .value-of .ensures, ← floats-cons values i (search needs)) (at .loop .inv .2) in
-    ⊎-elim
-    (λ a. let e = sym (c .before .is-nan .ensures) ∙ not-true _ (a .0 .taken) in (search needs, search needs, rw (a .1, a .2) (keep-in (kept (floats values)) work x (floats (drop (i + 1) values)) (at .loop .work) (at .loop .n) next e (search needs))))
-    (λ b. let e = sym (c .before .is-nan .ensures) ∙ not-false _ (b .0 .left) in (search needs, search needs, rw (b .1, b .2) (keep-out (kept (floats values)) work x (floats (drop (i + 1) values)) (at .loop .work) (at .loop .n) next e)))
-    (c .if1 .came)
-
-same-length : tie.Need-same-length Inv-loop μ-loop
-same-length c = search needs
+    let s = at .before .before .before in
+    let value = c .before .before .value-of in
+    let nan = c .before .is-nan in
+    let turn =
+    keeping-turn same (s .args .values .now) (s .args .work .now) (s .pre) (at .loop .work) (at .loop .n) (at .loop .i) (at .loop .inv)
+    (λ x. x) (λ x xs. refl) (search needs) (value .result) (value .ensures) (nan .result) (nan .ensures) in
+    ⊎-elim (λ a. rw (a .1, a .2) (turn .0 (a .0 .taken))) (λ b. rw (b .1, b .2) (turn .1 (b .0 .left))) (c .if1 .came)
 
 returns : tie.Need-returns Inv-loop μ-loop
-unfolding kept
 returns c =
     let at = c .before in
-    let values = at .before .before .before .args .values .now in
-    let work = at .before .before .before .args .work .now in
-    filling-end (kept (floats values)) work (at .loop .work) (at .loop .n) (search needs) (rw (floats-none values (at .loop .i) (c .loop-test .left)) at (at .loop .inv .2))
+    let s = at .before .before .before in
+    keeping-end same (s .args .values .now) (s .args .work .now) (s .pre) (at .loop .work) (at .loop .n) (at .loop .i) (at .loop .inv) refl (c .loop-test .left)
 
 pub keep-spec : {M : Type 1} → statement M
-keep-spec = tie.close (tie.spec Inv-loop μ-loop loop-holds mul-value-of shared-slice-read-value-of value-of-requires is-nan-requires mul-work slice-write-work add-n add-i loop-less loop-again same-length returns)
+keep-spec =
+    tie.close
+    (tie.spec Inv-loop μ-loop loop-holds (λ c. search needs) (λ c. search needs) (λ c κs. search needs) (λ c κs. search needs) (λ c. search needs) (λ c. search needs) (λ c. search needs) (λ c. search needs) (λ c. search needs) loop-again (λ c. search needs) returns)

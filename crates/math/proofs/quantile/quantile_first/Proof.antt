@@ -1,11 +1,10 @@
 -- `math::quantile::quantile_first` meets its contract: the first half of the part that is sorted is the first n.
 -- Assumes nothing.
-use mathlib.Core.Path.{_≡_, refl, sym, ap, _∙_}
+use mathlib.Core.Path.{ap, _∙_}
 use mathlib.Core.List.{List}
-use Prim.Native.Nat.{ℕ, _*_, _/_, _≤_}
 use native.Mathlib.Omega.{arith}
 use borrow.Author.Needs.{needs}
-use lib.ListN.{length, length-take, length-append}
+use lib.ListN.{length-take, length-append}
 use lib.Ieee.{Float}
 use Rattle.math.specs.Order.{sorted}
 use Rattle.math.specs.Quantile.{quantileSorted}
@@ -13,16 +12,6 @@ use Rattle.math.specs.declared.sort.Order.the-variants.{Partial}
 use Rattle.math.proofs.Halves.{first-half, part-long, part-first, part-behind}
 use Rattle.math.proofs.quantile.quantile_first.Statement.{statement}
 use Rattle.math.proofs.quantile.quantile_first.Tie as tie
-use Rattle.math.proofs.quantile.quantile_first.Reads as reads
-use Rattle.math.proofs.quantile.quantile_first.Lts as lts
-use Rattle.math.proofs.quantile.quantile_sorted.Reads as quantile-sorted-reads
-use Rattle.math.proofs.sort.sort.Reads as sort-reads
-
-mul-sort : tie.Need-mul-sort
-mul-sort c = search needs
-
-slice-relend-prefix-sort : tie.Need-slice-relend-prefix-sort
-slice-relend-prefix-sort c = search needs
 
 slice-aggregate-sort : tie.Need-slice-aggregate-sort
 slice-aggregate-sort c = simp length-take (search needs)
@@ -30,21 +19,12 @@ slice-aggregate-sort c = simp length-take (search needs)
 sort-requires : tie.Need-sort-requires
 sort-requires c κs = rw (first-half (c .before .before .args .n) (c .before .before .args .work .now) (search needs)) (c .before .before .pre .1)
 
-slice-reshare-prefix-quantile-sorted : tie.Need-slice-reshare-prefix-quantile-sorted
-slice-reshare-prefix-quantile-sorted c = search needs
-
 slice-aggregate-quantile-sorted : tie.Need-slice-aggregate-quantile-sorted
 slice-aggregate-quantile-sorted c =
     let at = c .before .before .before in
     let s = at .before .before .before in
     let long = part-long (s .args .n) (s .args .work .now) (search needs) (sorted Partial) (at .sort .last .1 .0) (at .sort .kept .1 .0) in
     simp (length-take, length-append) (omega arith)
-
-quantile-sorted-requires : tie.Need-quantile-sorted-requires
-quantile-sorted-requires c κs = search needs
-
-same-length : tie.Need-same-length
-same-length c = search needs
 
 returns : tie.Need-returns
 returns c =
@@ -56,4 +36,4 @@ returns c =
     )
 
 pub quantile-first-spec : {M : Type 1} → statement M
-quantile-first-spec = tie.close (tie.spec mul-sort slice-relend-prefix-sort slice-aggregate-sort sort-requires slice-reshare-prefix-quantile-sorted slice-aggregate-quantile-sorted quantile-sorted-requires same-length returns)
+quantile-first-spec = tie.close (tie.spec (λ c. search needs) (λ c. search needs) slice-aggregate-sort sort-requires (λ c. search needs) slice-aggregate-quantile-sorted (λ c κs. search needs) (λ c. search needs) returns)

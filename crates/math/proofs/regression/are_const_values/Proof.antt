@@ -1,6 +1,6 @@
 -- `math::regression::are_const_values` meets its contract. At each turn, what is left after the last value decides.
 -- Assumes nothing.
-use mathlib.Core.Path.{_≡_, refl, sym, ap, _∙_}
+use mathlib.Core.Path.{_≡_, refl, sym, _∙_}
 use mathlib.Core.List.{List, [], _∷_}
 use mathlib.Core.Bool.{true, false}
 use Prim.Native.Nat.{ℕ, _≤_, _<_, _+_, _-_}
@@ -14,9 +14,6 @@ use Rattle.math.specs.Regression.{constAfter, areConst}
 use Rattle.math.proofs.Folding.{floats-cons, floats-none}
 use Rattle.math.proofs.regression.are_const_values.Statement.{statement}
 use Rattle.math.proofs.regression.are_const_values.Tie as tie
-use Rattle.math.proofs.regression.are_const_values.Reads as reads
-use Rattle.math.proofs.regression.are_const_values.Lts as lts
-use Rattle.ieee.proofs.value_of.Reads as value-of-reads
 
 few : (vs : List ℕ) → length vs ≤ 1 → areConst (floats vs) ≡ true
 unfolding areConst
@@ -47,25 +44,10 @@ abbrev μ-loop : tie.MeasureT-loop
 returns : tie.Need-returns Inv-loop μ-loop
 returns c = sym (few (c .before .before .args .values .now) (search needs))
 
-shared-slice-read-value-of : tie.Need-shared-slice-read-value-of Inv-loop μ-loop
-shared-slice-read-value-of c = search needs
-
-value-of-requires : tie.Need-value-of-requires Inv-loop μ-loop
-value-of-requires c κs = search needs
-
 loop-holds : tie.Need-loop-holds Inv-loop μ-loop
 loop-holds c =
     let values = c .before .before .before .before .args .values .now in
     (search needs, search needs, rw (c .value-of .ensures) (opened values (search needs)))
-
-mul-value-of : tie.Need-mul-value-of Inv-loop μ-loop
-mul-value-of c = search needs
-
-shared-slice-read-value-of-2 : tie.Need-shared-slice-read-value-of-2 Inv-loop μ-loop
-shared-slice-read-value-of-2 c = search needs
-
-value-of-requires-2 : tie.Need-value-of-requires-2 Inv-loop μ-loop
-value-of-requires-2 c κs = search needs
 
 -- what is left, with the value that was read in front
 next : (c : tie.After-value-of2 Inv-loop μ-loop) → constAfter (c .before .before .before .loop .v-prev) (c .value-of2 .result ∷ floats (drop (c .before .before .before .loop .i + 1) (c .before .before .before .before .before .before .before .before .args .values .now))) ≡ areConst (floats (c .before .before .before .before .before .before .before .before .args .values .now))
@@ -76,12 +58,6 @@ next c =
 returns-2 : tie.Need-returns-2 Inv-loop μ-loop
 returns-2 c = sym (other _ _ _ (c .if2 .taken)) ∙ next (c .before)
 
-add-i : tie.Need-add-i Inv-loop μ-loop
-add-i c = search needs
-
-loop-less : tie.Need-loop-less Inv-loop μ-loop
-loop-less c = search needs
-
 loop-again : tie.Need-loop-again Inv-loop μ-loop
 loop-again c = (search needs, search needs, sym (same _ _ _ (c .if2 .left)) ∙ next (c .before))
 
@@ -90,4 +66,4 @@ unfolding constAfter
 returns-3 c = rw (floats-none (c .before .before .before .before .before .before .args .values .now) (c .before .loop .i) (c .loop-test .left)) at (c .before .loop .inv .2)
 
 pub are-const-values-spec : {M : Type 1} → statement M
-are-const-values-spec = tie.close (tie.spec Inv-loop μ-loop returns shared-slice-read-value-of value-of-requires loop-holds mul-value-of shared-slice-read-value-of-2 value-of-requires-2 returns-2 add-i loop-less loop-again returns-3)
+are-const-values-spec = tie.close (tie.spec Inv-loop μ-loop returns (λ c. search needs) (λ c κs. search needs) loop-holds (λ c. search needs) (λ c. search needs) (λ c κs. search needs) returns-2 (λ c. search needs) (λ c. search needs) loop-again returns-3)

@@ -1,19 +1,11 @@
 -- `math::regression::fit` meets its contract: its operations are those of the definition in their order, and the arm that is taken is the definition's.
 -- Assumes nothing.
-use mathlib.Core.Path.{_≡_, refl, sym, ap, _∙_}
-use mathlib.Core.Bool.{true, false}
+use mathlib.Core.Path.{_≡_}
 use mathlib.Core.Logic.{⊎-elim}
 use borrow.Author.Needs.{needs}
-use lib.Ieee.{Float}
 use Rattle.math.specs.Regression.{slopeOf, lineOf}
 use Rattle.math.proofs.regression.fit.Statement.{statement}
 use Rattle.math.proofs.regression.fit.Tie as tie
-use Rattle.math.proofs.regression.fit.Reads as reads
-use Rattle.math.proofs.regression.fit.Lts as lts
-use Rattle.ieee.proofs.abs.Reads as abs-reads
-
-abs-requires : tie.Need-abs-requires
-abs-requires c κs = search needs
 
 returns : tie.Need-returns
 unfolding lineOf
@@ -25,4 +17,4 @@ returns c =
     rw k
 
 pub fit-spec : {M : Type 1} → statement M
-fit-spec = tie.close (tie.spec abs-requires returns)
+fit-spec = tie.close (tie.spec (λ c κs. search needs) returns)

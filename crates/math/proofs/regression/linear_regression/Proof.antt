@@ -1,6 +1,6 @@
 -- `math::regression::linear_regression` meets its contract: it makes the tests of the definition.
 -- Assumes nothing.
-use mathlib.Core.Path.{_≡_, refl, sym, ap, _∙_}
+use mathlib.Core.Path.{_≡_, refl, sym, _∙_}
 use mathlib.Core.List.{List, [], _∷_}
 use mathlib.Core.Bool.{true, false}
 use Prim.Native.Nat.{ℕ}
@@ -9,21 +9,12 @@ use borrow.Author.Needs.{needs}
 use lib.IntN.{ℤ, pos}
 use mir.Syntax.{w64}
 use mir.ValLaws.{toZ-ofZ}
-use lib.ListN.{length, getD}
+use lib.ListN.{length, getD, length-map}
 use lib.Ieee.{nan, binary64, div, ofBits, ofInt}
 use Rattle.math.specs.Values.{floats}
-use Rattle.math.specs.declared.regression.Line.{Line}
 use Rattle.math.specs.Regression.{areConst, noSums, sumsFrom, lineOf, regressionOf}
-use Rattle.math.proofs.Folding.{length-map}
 use Rattle.math.proofs.regression.linear_regression.Statement.{statement}
 use Rattle.math.proofs.regression.linear_regression.Tie as tie
-use Rattle.math.proofs.regression.linear_regression.Reads as reads
-use Rattle.math.proofs.regression.linear_regression.Lts as lts
-use Rattle.ieee.proofs.of_count.Reads as of-count-reads
-use Rattle.ieee.proofs.value_of.Reads as value-of-reads
-use Rattle.math.proofs.regression.are_const_values.Reads as are-const-values-reads
-use Rattle.math.proofs.regression.fit.Reads as fit-reads
-use Rattle.math.proofs.regression.sum_up.Reads as sum-up-reads
 
 none : (vs : List ℕ) (ts : List ℤ) (t : ℤ) → length vs ≡ 0 → regressionOf (floats vs) ts t ≡ record { v = nan; k = nan }
 unfolding regressionOf
@@ -38,35 +29,17 @@ const (b ∷ bs) ts t some e = rw e
 sloped : (vs : List ℕ) (ts : List ℤ) (t : ℤ) → (length vs ≡ 0 → ⊥) → areConst (floats vs) ≡ false → regressionOf (floats vs) ts t ≡ lineOf (sumsFrom t noSums ts (floats vs)) (ofInt binary64 (pos (length vs)))
 unfolding regressionOf
 sloped [] ts t some e = absurd (some refl)
-sloped (b ∷ bs) ts t some e = rw (e, length-map (ofBits binary64) bs)
+sloped (b ∷ bs) ts t some e = rw (e, length-map bs (ofBits binary64))
 
 returns : tie.Need-returns
 unfolding div ofBits
 returns c = sym (none (c .before .before .args .values .now) (c .before .before .args .timestamps .now) (c .before .before .args .intercept-time) (c .if1 .taken))
-
-are-const-values-requires : tie.Need-are-const-values-requires
-are-const-values-requires c κs = search needs
-
-shared-slice-read-value-of : tie.Need-shared-slice-read-value-of
-shared-slice-read-value-of c = search needs
-
-value-of-requires : tie.Need-value-of-requires
-value-of-requires c κs = search needs
 
 returns-2 : tie.Need-returns-2
 returns-2 c =
     let tested = c .before .before .before in
     let s = tested .before .before .before in
     rw (c .value-of .ensures) (sym (const (s .args .values .now) (s .args .timestamps .now) (s .args .intercept-time) (tested .before .if1 .left) (sym (tested .are-const-values .ensures) ∙ c .before .before .if2 .taken)))
-
-sum-up-requires : tie.Need-sum-up-requires
-sum-up-requires c κs = search needs
-
-of-count-requires : tie.Need-of-count-requires
-of-count-requires c κs = search needs
-
-fit-requires : tie.Need-fit-requires
-fit-requires c κs = search needs
 
 returns-3 : tie.Need-returns-3
 returns-3 c =
@@ -76,4 +49,4 @@ returns-3 c =
     ∙ rw (c .before .before .sum-up .ensures, c .before .of-count .ensures, toZ-ofZ w64 (s .args .intercept-time) (s .fits .intercept-time)) (sym (sloped (s .args .values .now) (s .args .timestamps .now) (s .args .intercept-time) (tested .before .if1 .left) (sym (tested .are-const-values .ensures) ∙ c .before .before .before .if2 .left)))
 
 pub linear-regression-spec : {M : Type 1} → statement M
-linear-regression-spec = tie.close (tie.spec returns are-const-values-requires shared-slice-read-value-of value-of-requires returns-2 sum-up-requires of-count-requires fit-requires returns-3)
+linear-regression-spec = tie.close (tie.spec returns (λ c κs. search needs) (λ c. search needs) (λ c κs. search needs) returns-2 (λ c κs. search needs) (λ c κs. search needs) (λ c κs. search needs) returns-3)

@@ -1,9 +1,8 @@
 -- `math::regression::sum_up` meets its contract. At each turn, what is summed and what is left make the whole.
 -- Assumes nothing.
-use mathlib.Core.Path.{_≡_, refl, sym, ap, _∙_}
+use mathlib.Core.Path.{_≡_, refl, sym, _∙_}
 use mathlib.Core.List.{List, [], _∷_}
 use Prim.Native.Nat.{ℕ, _≤_, _<_, _+_, _-_}
-use native.Mathlib.Omega.{arith}
 use native.Mathlib.Numerals.{add-one}
 use borrow.Author.Needs.{needs}
 use lib.IntN.{ℤ, pos}
@@ -12,17 +11,13 @@ use mir.Val.{ofZ, toZ}
 use mir.ValLaws.{toZ-ofZ}
 use lib.ListN.{length, drop, getD}
 use lib.Seq.{drop-cons}
-use lib.Ieee.{Float, add, mul, div, binary64, ofBits}
+use lib.Ieee.{binary64, ofBits}
 use Rattle.math.specs.Values.{floats}
 use Rattle.math.specs.declared.regression.Sums.{Sums}
 use Rattle.math.specs.Regression.{noSums, secondsFrom, sumsFrom, sumsWith}
 use Rattle.math.proofs.Folding.{floats-cons, floats-none}
 use Rattle.math.proofs.regression.sum_up.Statement.{statement}
 use Rattle.math.proofs.regression.sum_up.Tie as tie
-use Rattle.math.proofs.regression.sum_up.Reads as reads
-use Rattle.math.proofs.regression.sum_up.Lts as lts
-use Rattle.ieee.proofs.seconds.Reads as seconds-reads
-use Rattle.ieee.proofs.value_of.Reads as value-of-reads
 
 one-more : (t : ℤ) (s : Sums) (ts : List ℤ) (vs : List ℕ) (i : ℕ) → i < length ts → i < length vs
     → sumsFrom t s (drop i ts) (floats (drop i vs)) ≡ sumsFrom t (sumsWith s (secondsFrom t (getD ts i (pos 0))) (ofBits binary64 (getD vs i 0))) (drop (i + 1) ts) (floats (drop (i + 1) vs))
@@ -43,35 +38,11 @@ abbrev μ-loop : tie.MeasureT-loop
 loop-holds : tie.Need-loop-holds Inv-loop μ-loop
 loop-holds c = (search needs, refl)
 
-mul-seconds : tie.Need-mul-seconds Inv-loop μ-loop
-mul-seconds c = search needs
-
-shared-slice-copy-out-seconds : tie.Need-shared-slice-copy-out-seconds Inv-loop μ-loop
-shared-slice-copy-out-seconds c = search needs
-
 sub-seconds : tie.Need-sub-seconds Inv-loop μ-loop
 sub-seconds c =
     let s = c .before .before .before .before in
     let t : ℤ = getD (s .args .timestamps .now) (c .before .before .loop .i) (pos 0) in
     rw (toZ-ofZ w64 t (record { sfits = c .seconds-arg .given }), toZ-ofZ w64 (s .args .intercept-time) (s .fits .intercept-time)) (s .pre .1 (c .before .before .loop .i) (search needs))
-
-seconds-requires : tie.Need-seconds-requires Inv-loop μ-loop
-seconds-requires c κs = search needs
-
-mul-value-of : tie.Need-mul-value-of Inv-loop μ-loop
-mul-value-of c = search needs
-
-shared-slice-read-value-of : tie.Need-shared-slice-read-value-of Inv-loop μ-loop
-shared-slice-read-value-of c = search needs
-
-value-of-requires : tie.Need-value-of-requires Inv-loop μ-loop
-value-of-requires c κs = search needs
-
-add-i : tie.Need-add-i Inv-loop μ-loop
-add-i c = search needs
-
-loop-less : tie.Need-loop-less Inv-loop μ-loop
-loop-less c = search needs
 
 loop-again : tie.Need-loop-again Inv-loop μ-loop
 loop-again c =
@@ -97,4 +68,4 @@ returns c =
     rw (floats-none (s .args .values .now) (at .loop .i) (c .loop-test .left), ended _ sums (drop (at .loop .i) (s .args .timestamps .now)), ic) at (at .loop .inv .1)
 
 pub sum-up-spec : {M : Type 1} → statement M
-sum-up-spec = tie.close (tie.spec Inv-loop μ-loop loop-holds mul-seconds shared-slice-copy-out-seconds sub-seconds seconds-requires mul-value-of shared-slice-read-value-of value-of-requires add-i loop-less loop-again returns)
+sum-up-spec = tie.close (tie.spec Inv-loop μ-loop loop-holds (λ c. search needs) (λ c. search needs) sub-seconds (λ c κs. search needs) (λ c. search needs) (λ c. search needs) (λ c κs. search needs) (λ c. search needs) (λ c. search needs) loop-again returns)
