@@ -384,8 +384,12 @@ pub fn rollup_lag(rfa: RollupFuncArg, timestamps: &[i64]) -> f64
 fn change_below_tolerance(v: f64, prev_value: f64) -> bool
     ensures { λ r. ⌜ r ≡ belowTolerance v «prev_value» ⌝ }
 {
-    let tolerance = 1e-12 * ieee::abs(v);
-    ieee::abs(v - prev_value) < tolerance
+    let step = v - prev_value;
+    if ieee::is_nan(step) {
+        return false;
+    }
+    let tolerance = 1e-12 * ieee::magnitude(v);
+    ieee::magnitude(step) < tolerance
 }
 
 // Whether the step from prev_value to v counts as a change.
