@@ -1,11 +1,12 @@
 // What the programs that replay a list of stored answers share: the tally of cases and differences,
 // and the lines that report it. A program has a function that replays one case, and one loop.
 
+ghost use mathlib.Core.Bool.{false};
 ghost use mathlib.Core.Path.{_≡_};
 ghost use Prim.Native.Nat.{_<_};
 ghost use lib.Dec.{eqb};
 ghost use lib.ListN.{drop, length};
-ghost use Rattle.replay.specs.Tally.{After, Counted, differed};
+ghost use Rattle.replay.specs.Tally.{After, Counted, differed, pick};
 use libc::STDOUT_FILENO;
 
 // Zeros, as many as the longest list may have bytes. The `ensures` gives the length alone, which lending
@@ -23,7 +24,9 @@ pub struct Case {
 }
 
 // A case that cannot be read: like one that is cut short, it counts as a difference, and is the last.
-pub fn unread() -> Case {
+pub fn unread() -> Case
+    ensures { λ r. ⌜ (r .len ≡ 0) × (r .same ≡ false) ⌝ }
+{
     Case {
         len: 0,
         same: false,
@@ -31,7 +34,9 @@ pub fn unread() -> Case {
 }
 
 // A test's outcome as it is stored.
-pub fn flag(b: bool) -> u64 {
+pub fn flag(b: bool) -> u64
+    ensures { λ r. ⌜ r ≡ pick b 1 0 ⌝ }
+{
     if b { 1 } else { 0 }
 }
 

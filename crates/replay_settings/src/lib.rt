@@ -4,11 +4,16 @@
 use config::settings::RollupConfig;
 use config::settle::Settled;
 use vectors::STEP;
+ghost use mathlib.Core.Bool.{true};
+ghost use mathlib.Core.Path.{_≡_};
 ghost use Prim.Native.Nat.{_<_};
+ghost use Rattle.config.specs.declared.settle.Settled.the-variants as Answers;
+ghost use Rattle.replay_settings.specs.Stored.{Settings, numberAt};
 
 // The k-th word from a byte on, as a signed number.
 pub fn number(text: &[u8], at: usize, k: usize) -> i64
     requires { ⌜ (at < 4096) × (k < 16) ⌝ }
+    ensures { λ r. ⌜ r ≡ numberAt (now (text .entry)) at k ⌝ }
 {
     vectors::signed(vectors::word(text, at + k * STEP))
 }
@@ -16,6 +21,7 @@ pub fn number(text: &[u8], at: usize, k: usize) -> i64
 // The settings whose ten words begin at a byte.
 pub fn settings(text: &[u8], at: usize) -> RollupConfig
     requires { ⌜ at < 4096 ⌝ }
+    ensures { λ r. ⌜ Settings (now (text .entry)) at r ⌝ }
 {
     RollupConfig {
         start: number(text, at, 0),
@@ -34,6 +40,7 @@ pub fn settings(text: &[u8], at: usize) -> RollupConfig
 // Whether an answer has the window and the reach that are stored from a byte on, and n output times.
 pub fn same(text: &[u8], at: usize, n: u64, answer: Settled) -> bool
     requires { ⌜ at < 4096 ⌝ }
+    ensures { λ r. ⌜ (r ≡ true → answer ≡ Answers.Accepted (numberAt (now (text .entry)) at 0) (numberAt (now (text .entry)) at 1) n) ⌝ }
 {
     match answer {
         Settled::Accepted {
