@@ -31,8 +31,7 @@ pub fn parse(text: &str) -> Result<(i64, Form), &'static str> {
     Ok((rfc3339(text.as_bytes())?, Form::Rfc3339))
 }
 
-/// The milliseconds of a time in RFC 3339, or what was expected.
-pub fn rfc3339(text: &[u8]) -> Result<i64, &'static str> {
+fn rfc3339(text: &[u8]) -> Result<i64, &'static str> {
     const SHAPE: &str = "expected a time: milliseconds, or as 2026-01-31T12:00:00Z";
     let (date, clock) = text.split_at_checked(10).ok_or(SHAPE)?;
     let [y0, y1, y2, y3, b'-', m0, m1, b'-', d0, d1] = *date else { return Err(SHAPE) };

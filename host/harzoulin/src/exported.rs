@@ -1,5 +1,6 @@
 //! The exported functions, as include/harzoulin.h declares them. compare/ takes this file in as well.
 
+// Safe to declare: the types are those of include/harzoulin.h, which examples/c is built with.
 unsafe extern "C" {
     pub fn harzoulin_prepare(
         timestamps: *const i64,
