@@ -19,7 +19,7 @@ use Rattle.times.specs.Grid.{gridSize}
 use Rattle.times.proofs.GridLaws.{grid-length}
 use Rattle.times.proofs.Readings.{zip-length}
 use Rattle.run.specs.Record.{reading}
-use Rattle.run.specs.Run.{lentChecked, outcome, preparedSeries, runChecked, settledChecked}
+use Rattle.run.specs.Run.{lentChecked, planned, preparedSeries, runChecked, settledChecked}
 use Rattle.claims.specs.Calls.{Call, Settings, run, settled, accepted, checked, checkedBy, outputTimes, plan, planBy, returned, returnedBy, samples}
 
 -- rows 6 to 11 of each call
@@ -43,16 +43,19 @@ module _ (c : Call) where
       go (run rc) = refl
       go (settled sc) = refl
 
-  pub returned-is : returned c ≡ outcome (checked c) (plan c) (c .lent)
+  pub returned-is : returned c ≡ planned (checked c) (plan c) (c .lent)
   returned-is = go (c .settings)
     where
-      go : (s : Settings) → returnedBy c s ≡ outcome (checkedBy c s) (planBy c s) (c .lent)
+      go : (s : Settings) → returnedBy c s ≡ planned (checkedBy c s) (planBy c s) (c .lent)
       go (run rc) = refl
       go (settled sc) = refl
 
   module _ (ok : checked c ≡ Accepted) where
     pub accepted-call : accepted c ≡ 1
     accepted-call = rw (returned-is, ok)
+
+    pub accepted-times : outputTimes c ≡ plan c .outputs
+    accepted-times = rw (returned-is, ok)
 
     -- the rows on the series, on the settings and on the slices accept
     pub rows-accept : AllAccept (rowsBy c (c .settings))

@@ -3,20 +3,20 @@
 -- Assumes nothing.
 use mathlib.Core.Path.{_≡_, refl, sym, ap, ap₂, _∙_, subst}
 use mathlib.Core.List.{List, [], _∷_, _++_, map-append}
+use mathlib.Core.Option.{Option, none, some, Option·getD}
 use Prim.Native.Nat.{ℕ, zero, suc, _+_, _-_, _*_, _<_}
 use native.Mathlib.Nat.{add-mul, mul-comm, suc-mul}
 use native.Mathlib.Omega.{arith}
 use lib.IntN.{ℤ}
 use lib.ListN.{length, length-map, take}
 use lib.Seq.{take-at}
+use Rattle.series.specs.Answers.{Outcome}
 use Rattle.series.specs.declared.refusal.Checked.{Checked}
 use Rattle.series.specs.declared.refusal.Checked.the-variants.{Accepted, Refused}
-use Rattle.run.specs.declared.Figures.{Figures}
-use Rattle.run.specs.declared.Figures.the-variants.{Counted, Refused as NotRun}
 use Rattle.run.specs.Figures.{figures, scans}
 use Rattle.run.proofs.Loop.{scans-append}
-use Rattle.run.specs.Run.{Lent, Outcome, Plan, countedOf, outcome, preparedSeries}
-use Rattle.claims.specs.Calls.{Call, accepted, answers, checked, counted, ifCounted, countIn, outputTimes, plan, returned, samples}
+use Rattle.run.specs.Run.{Lent, Plan, countedOf, planned, preparedSeries}
+use Rattle.claims.specs.Calls.{Call, accepted, answers, checked, counted, ifGiven, outputTimes, plan, returned, samples}
 use Rattle.claims.specs.Cut.{AcceptedAlike, Alike, Cut, Rejoined, joined, total}
 use Rattle.claims.proofs.Calls.{accepted-call, prepared-samples, returned-is, some-outputs}
 
@@ -38,12 +38,12 @@ figures-length p ts = length-map ts _
 
 -- ---- what a call leaves that goes by q, alike to p
 
-abbrev timesIn : Outcome → Plan → List ℤ
-timesIn o q = ifCounted (o .answer) (q .outputs) []
+abbrev timesIn : Outcome ℕ Lent → Plan → List ℤ
+timesIn o q = ifGiven (o .answer .values) (q .outputs) []
 
 module _ (p : Plan) where
   answers-in : (k : Checked) (q : Plan) (l : Lent) → (k ≡ Accepted → Alike q p)
-      → let o = outcome k q l in take (length (timesIn o q)) (o .slices .dst) ≡ figuresBy p (timesIn o q)
+      → let o = planned k q l in take (length (timesIn o q)) (o .slices .dst) ≡ figuresBy p (timesIn o q)
   unfolding figures
   answers-in (Refused r) q l alike = refl
   answers-in Accepted q l alike =
@@ -51,7 +51,7 @@ module _ (p : Plan) where
       take-at (figuresBy q (q .outputs)) _ (length (q .outputs)) (figures-length q (q .outputs)) ∙ cc
 
   count-in : (k : Checked) (q : Plan) (l : Lent) → (k ≡ Accepted → Alike q p)
-      → let o = outcome k q l in countIn (o .answer) ≡ ifCounted (o .answer) 1 0 * length (preparedSeries p) + scansBy p (timesIn o q)
+      → let o = planned k q l in Option·getD (o .answer .values) 0 ≡ ifGiven (o .answer .values) 1 0 * length (preparedSeries p) + scansBy p (timesIn o q)
   unfolding scans
   count-in (Refused r) q l alike = omega arith
   count-in Accepted q l alike =
@@ -61,12 +61,12 @@ module _ (p : Plan) where
 
   call-answers : (c : Call) → (checked c ≡ Accepted → Alike (plan c) p) → answers c ≡ figuresBy p (outputTimes c)
   call-answers c alike =
-      subst (λ (o : Outcome). take (length (timesIn o (plan c))) (o .slices .dst) ≡ figuresBy p (timesIn o (plan c))) (sym (returned-is c))
+      subst (λ (o : Outcome ℕ Lent). take (length (timesIn o (plan c))) (o .slices .dst) ≡ figuresBy p (timesIn o (plan c))) (sym (returned-is c))
       (answers-in (checked c) (plan c) (c .lent) alike)
 
   call-count : (c : Call) → (checked c ≡ Accepted → Alike (plan c) p) → counted c ≡ accepted c * length (preparedSeries p) + scansBy p (outputTimes c)
   call-count c alike =
-      subst (λ (o : Outcome). countIn (o .answer) ≡ ifCounted (o .answer) 1 0 * length (preparedSeries p) + scansBy p (timesIn o (plan c))) (sym (returned-is c))
+      subst (λ (o : Outcome ℕ Lent). Option·getD (o .answer .values) 0 ≡ ifGiven (o .answer .values) 1 0 * length (preparedSeries p) + scansBy p (timesIn o (plan c))) (sym (returned-is c))
       (count-in (checked c) (plan c) (c .lent) alike)
 
   -- ---- the list
@@ -85,11 +85,11 @@ module _ (p : Plan) where
       (omega (arith, call-count c (a .0), total-counts cs (a .1), scans-append (p .per-call) (preparedSeries p) (p .window) (outputTimes c) (joined outputTimes cs)))
 
 no-times : (c : Call) → accepted c ≡ 0 → outputTimes c ≡ []
-no-times c e = go (returned c .answer) e
+no-times c e = go (returned c .answer .values) e
   where
-    go : (x : Figures) → ifCounted {A = ℕ} x 1 0 ≡ 0 → ifCounted x (plan c .outputs) [] ≡ []
-    go (Counted n) e = absurd (omega arith)
-    go (NotRun r) e = refl
+    go : (x : Option ℕ) → ifGiven {B = ℕ} x 1 0 ≡ 0 → ifGiven x (plan c .outputs) [] ≡ []
+    go (some n) e = absurd (omega arith)
+    go none e = refl
 
 none-joined : (cs : List Call) → total accepted cs ≡ 0 → joined outputTimes cs ≡ []
 unfolding joined total

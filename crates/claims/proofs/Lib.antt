@@ -3,4 +3,7 @@ pub mod Records
 pub mod Calls
 pub mod Cut
 pub mod Piece
+pub mod Stretches
+pub mod Numbered
 pub mod Table
+pub mod Quantile

@@ -1,6 +1,7 @@
 -- A piece passes the rows of the series as its call does; its times lie in the call's span, its grid is a stretch of the call's, and what a call goes by
 -- lies in the ranges of a settled run. So only the rows on slices are left to refuse it.
 -- Assumes nothing.
+use mathlib.Core.Logic.{inl, inr}
 use mathlib.Core.Path.{_≡_, refl, sym, ap, _∙_}
 use mathlib.Core.Bool.{Bool, true, false, _||_, _&&_, not, true≢false}
 use mathlib.Core.List.{List, [], _∷_}
@@ -9,19 +10,19 @@ use native.Mathlib.Omega.{arith}
 use borrow.Author.Tests.{le-leb, le-ltb}
 use lib.Dec.{ltb}
 use lib.IntN.{ℤ, pos, negsuc, negℤ, natAbs}
-use lib.ListN.{length, getD}
+use lib.ListN.{length, take, drop, getD, length-take, length-drop}
 use lib.Signed.{leZ}
 use Rattle.config.specs.Rows.{gridChecked, maxPoints, outside, rangesChecked, row6, row7, row8, row9, row10, row11, settingsChecked, settledRow8, settledRow9, settledSettings, spanOutside}
-use Rattle.config.specs.Settle.{settleOf, settledReach, settledWindow}
+use Rattle.config.specs.Settle.{settleOf, settlement}
 use Rattle.config.specs.declared.settings.RollupConfig.{RollupConfig}
 use Rattle.config.proofs.Limits.{settled-in-range}
 use Rattle.config.proofs.Passed.{settings-passed, spans}
 use Rattle.rollup.specs.declared.handler.RollupHandler.{RollupHandler}
 use Rattle.run.proofs.Passed.{few-points, per-call-passes}
-use Rattle.run.specs.Run.{Lent, Plan, outcome, runPlan, settledChecked, settledPlan, slicesChecked}
+use Rattle.run.specs.Run.{Lent, Plan, lentChecked, planned, row12, row14, runPlan, settledChecked, settledPlan, slicesChecked}
 use Rattle.run.specs.declared.SettledConfig.{SettledConfig}
 use Rattle.series.specs.Refusals.{firstOf, refusedIf}
-use Rattle.series.specs.Rows.{row1, row5, seriesChecked, timesChecked}
+use Rattle.series.specs.Rows.{row1, row5, row13, seriesChecked, timesChecked}
 use Rattle.series.specs.declared.refusal.Checked.{Checked}
 use Rattle.series.specs.declared.refusal.Checked.the-variants.{Accepted, Refused}
 use Rattle.series.specs.declared.refusal.Refusal.{Refusal}
@@ -30,11 +31,11 @@ use Rattle.series.specs.declared.steps.PreFunction.{PreFunction}
 use Rattle.series.proofs.Accepted.{AllAccept, all-accept, fails}
 use Rattle.times.specs.Grid.{Spans, gridFrom, gridSize, timeAt}
 use Rattle.times.specs.Milli.{timeLimit, Within}
-use Rattle.times.proofs.GridLaws.{grid-at, grid-length, size-of-steps, spans-cut, time-add}
+use Rattle.times.proofs.GridLaws.{grid-at, grid-cut, grid-length, spans-cut}
 use Rattle.times.proofs.Milli.{within-test}
 use Rattle.times.proofs.Order.{lt-not-le}
 use Rattle.claims.specs.Calls.{Call, Settings, run, settled, checked, plan, planBy, returned}
-use Rattle.claims.specs.Piece.{OnlySlices, piece, stepOf}
+use Rattle.claims.specs.Piece.{OnlySlices, Room, piece, stepOf}
 use Rattle.claims.proofs.Calls.{rows-accept, settingsRows}
 
 abbrev startOf : Settings → ℤ
@@ -93,7 +94,7 @@ module _ (ts : List ℤ) (vs : List ℕ) (pre : PreFunction) (h : RollupHandler)
         span = settings-passed rc e .spans;
         grid = refl;
         eight =
-            settled-in-range ts rc (pos (settledWindow ts rc)) (pos (settledReach ts rc)) (gridSize (rc .start) (rc .end) (rc .step)) (rw (times, e));
+            settled-in-range ts rc (settlement ts rc) (rw (times, e));
         nine = per-call-passes (rc .«lookback_delta») (rc .«min_staleness_interval») limit (rc .«samples_scanned_per_call») (each .1 .1 .1 .0);
         few = few-points (rc .start) (rc .end) (rc .step) (grid-rows .1 .0);
       }
@@ -137,13 +138,13 @@ refused-not e = let clash : _≡_ {A = ℕ} 0 1 = cc in omega arith
 
 -- where the others accept
 slices-only : (x y : Checked) (d p w : Bool) (q : Plan) (l : Lent) → x ≡ Accepted → y ≡ Accepted
-    → OnlySlices (outcome (firstOf (x ∷ y ∷ firstOf (refusedIf d OutputShort ∷ refusedIf p PreparedShort ∷ refusedIf w WorkShort ∷ []) ∷ [])) q l .answer)
+    → OnlySlices (planned (firstOf (x ∷ y ∷ firstOf (refusedIf d OutputShort ∷ refusedIf p PreparedShort ∷ refusedIf w WorkShort ∷ []) ∷ [])) q l .answer)
 slices-only (Refused r) y d p w q l e f = absurd (refused-not e)
 slices-only Accepted (Refused r) d p w q l e f = absurd (refused-not f)
-slices-only Accepted Accepted true p w q l e f = (omega arith, omega arith)
-slices-only Accepted Accepted false true w q l e f = (omega arith, omega arith)
-slices-only Accepted Accepted false false true q l e f = (omega arith, omega arith)
-slices-only Accepted Accepted false false false q l e f = tt
+slices-only Accepted Accepted true p w q l e f = inr (omega arith, omega arith)
+slices-only Accepted Accepted false true w q l e f = inr (omega arith, omega arith)
+slices-only Accepted Accepted false false true q l e f = inr (omega arith, omega arith)
+slices-only Accepted Accepted false false false q l e f = inl refl
 
 all-accepted : (rows : List Checked) → AllAccept rows → firstOf rows ≡ Accepted
 all-accepted [] a = refl
@@ -159,24 +160,36 @@ module _ (c : Call) (ok : checked c ≡ Accepted) (a b : ℕ) (order : a ≤ b) 
   abbrev to : ℤ
   to = getD (plan c .outputs) b (pos 0)
 
+  abbrev start : ℤ
+  start = startOf (c .settings)
+
+  below : b < gridSize start (endOf (c .settings)) step
+  below = let s = sound c ok in rw (s .grid, grid-length start step (gridSize start (endOf (c .settings)) step)) at inside
+
+  at-index : (k : ℕ) → k ≤ b → getD (plan c .outputs) k (pos 0) ≡ timeAt start step k
+  at-index k h =
+      ap (λ (ts : List ℤ). getD ts k (pos 0)) (sound c ok .grid) ∙ grid-at start step (gridSize start (endOf (c .settings)) step) k (omega (arith, below))
+
+  -- a piece's output times are the call's from index a to index b
+  pub piece-times : (l : Lent) → plan (piece c a b l) .outputs ≡ take (b - a + 1) (drop a (plan c .outputs))
+  piece-times l = let s = sound c ok in rw (at-index a order, at-index b (omega arith), s .grid) (grid-cut (s .span) a b order below)
+
+  piece-size : gridSize from to step ≡ b - a + 1
+  piece-size =
+      sym (grid-length from step (gridSize from to step))
+      ∙ ap length (piece-times (c .lent))
+      ∙ simp (length-take, length-drop) (omega (arith, inside))
+
   piece-settings : settledSettings from to step (plan c .window) (plan c .reach) (plan c .per-call) ≡ Accepted
   unfolding settledSettings
   piece-settings =
       let s = sound c ok in
-      let start = startOf (c .settings) in
-      let n = gridSize start (endOf (c .settings)) step in
-      let below : b < n = rw (s .grid, grid-length start step n) at inside in
-      let first : from ≡ timeAt start step a = ap (λ (ts : List ℤ). getD ts a (pos 0)) (s .grid) ∙ grid-at start step n a (omega arith) in
-      let last : to ≡ timeAt start step b = ap (λ (ts : List ℤ). getD ts b (pos 0)) (s .grid) ∙ grid-at start step n b below in
-      let steps-on : timeAt (timeAt start step a) step (b - a) ≡ timeAt start step b = time-add start step a (b - a) ∙ ap (timeAt start step) (omega arith) in
-      let size : gridSize (timeAt start step a) (timeAt start step b) step ≡ b - a + 1 =
-      rw steps-on at (size-of-steps (timeAt start step a) step (b - a) (s .span .step-positive)) in
       all-accepted
       (row6 step ∷ row7 from to ∷ settledRow8 (plan c .window) (plan c .reach) ∷ settledRow9 (plan c .per-call) ∷ row11 from to step ∷ []) (
         step-passes step (s .span .step-positive) (s .span .step-within),
         (
-          rw (first, last) (span-passes (spans-cut (s .span) a b order below)),
-          (s .eight, (s .nine, (rw (first, last, size, le-ltb maxPoints (b - a + 1) (omega (arith, s .few))), tt))),
+          rw (at-index a order, at-index b (omega arith)) (span-passes (spans-cut (s .span) a b order below)),
+          (s .eight, (s .nine, (rw (piece-size, le-ltb maxPoints (b - a + 1) (omega (arith, s .few, below))), tt))),
         ),
       )
 
@@ -188,3 +201,16 @@ module _ (c : Call) (ok : checked c ≡ Accepted) (a b : ℕ) (order : a ≤ b) 
       slices-only (seriesChecked (c .times) (c .values)) (settledSettings from to step (plan c .window) (plan c .reach) (plan c .per-call))
       (ltb (length (l .dst)) (gridSize from to step)) (ltb (length (l .prepared)) (length (c .values))) (ltb (length (l .work)) (2 * length (c .values)))
       (plan (piece c a b l)) l (rows-accept c ok .0) piece-settings
+
+  -- with slices that have the room, it is accepted
+  pub piece-with-room : (l : Lent) → Room (length (c .values)) (b - a + 1) l → checked (piece c a b l) ≡ Accepted
+  unfolding settledChecked slicesChecked
+  piece-with-room l r =
+      let n = length (c .values) in
+      let m = gridSize from to step in
+      let dst : row12 m (length (l .dst)) ≡ Accepted = rw (le-ltb (length (l .dst)) m (omega (arith, piece-size, r .dst))) in
+      let prepared : row13 n (length (l .prepared)) ≡ Accepted = rw (le-ltb (length (l .prepared)) n (r .prepared)) in
+      let work : row14 n (length (l .work)) ≡ Accepted = rw (le-ltb (length (l .work)) (2 * n) (r .work)) in
+      all-accepted
+      (seriesChecked (c .times) (c .values) ∷ settledSettings from to step (plan c .window) (plan c .reach) (plan c .per-call) ∷ lentChecked n m l ∷ [])
+      (rows-accept c ok .0, (piece-settings, (all-accepted (row12 m (length (l .dst)) ∷ row13 n (length (l .prepared)) ∷ row14 n (length (l .work)) ∷ []) (dst, (prepared, (work, tt))), tt)))

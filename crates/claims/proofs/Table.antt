@@ -1,4 +1,4 @@
--- The table of document 01's cases with † holds: the checker computes each case from the definitions.
+-- The table of stated cases holds: the checker computes each case from the definitions.
 -- Assumes nothing.
 use mathlib.Core.Path.{_≡_, refl}
 use mathlib.Core.List.{map, zipWith}

@@ -19,11 +19,11 @@ pub record Alike (p q : Plan) : Type 0 where
   pub reach : p .reach ≡ q .reach
 
 -- joined in order, and added up
-unfoldable pub joined : {A : Type 0} → (Call → List A) → List Call → List A
+unfoldable pub joined : {A C : Type 0} → (C → List A) → List C → List A
 joined f [] = []
 joined f (c ∷ cs) = f c ++ joined f cs
 
-unfoldable pub total : (Call → ℕ) → List Call → ℕ
+unfoldable pub total : {C : Type 0} → (C → ℕ) → List C → ℕ
 total f [] = 0
 total f (c ∷ cs) = f c + total f cs
 

@@ -3,4 +3,6 @@ pub mod Agree
 pub mod Calls
 pub mod Cut
 pub mod Piece
+pub mod Numbered
 pub mod Table
+pub mod Quantile

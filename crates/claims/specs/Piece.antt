@@ -1,11 +1,12 @@
--- A piece of a call's cut, as document 01 has it, and the rows that alone can refuse it.
+-- A piece of a call's cut, the rows that alone can refuse it, and a cut into consecutive stretches of the grid.
 -- Assumes nothing.
-use Prim.Native.Nat.{ℕ, _≤_}
+use mathlib.Core.Logic.{_⊎_}
+use mathlib.Core.Path.{_≡_}
+use mathlib.Core.List.{List, [], _∷_}
+use Prim.Native.Nat.{ℕ, _+_, _*_, _≤_}
 use lib.IntN.{ℤ, pos}
-use lib.ListN.{getD}
-use Rattle.series.specs.Refusals.{numberAndIndex}
-use Rattle.run.specs.declared.Figures.{Figures}
-use Rattle.run.specs.declared.Figures.the-variants.{Counted, Refused}
+use lib.ListN.{length, getD}
+use Rattle.series.specs.Answers.{Reply}
 use Rattle.run.specs.Run.{Lent}
 use Rattle.claims.specs.Calls.{Call, Settings, run, settled, plan}
 
@@ -33,6 +34,32 @@ piece c a b l = record {
 }
 
 -- accepted, or refused by one of the rows 12 to 14
-abbrev pub OnlySlices : Figures → Type 0
-OnlySlices (Counted n) = Unit {0}
-OnlySlices (Refused r) = (12 ≤ numberAndIndex r .0) × (numberAndIndex r .0 ≤ 14)
+abbrev pub OnlySlices : Reply ℕ → Type 0
+OnlySlices a = (a .number ≡ 0) ⊎ ((12 ≤ a .number) × (a .number ≤ 14))
+
+-- slices with room for so many readings and output times
+pub record Room (readings outputs : ℕ) (l : Lent) : Type 0 where
+  pub dst : outputs ≤ length (l .dst)
+  pub prepared : readings ≤ length (l .prepared)
+  pub work : 2 * readings ≤ length (l .work)
+
+-- a stretch of a grid: one output time and so many more, with the slices that its piece is lent
+pub record Stretch : Type 0 where
+  pub more : ℕ
+  pub lent : Lent
+
+module _ (c : Call) where
+  -- a piece for each stretch, one after the other, from the output time at index a on
+  unfoldable pub stretched : ℕ → List Stretch → List Call
+  stretched a [] = []
+  stretched a (p ∷ ps) = piece c a (a + p .more) (p .lent) ∷ stretched (a + p .more + 1) ps
+
+  -- each stretch's slices have the room for it
+  abbrev pub Roomy : List Stretch → Type 0
+  Roomy [] = Unit {0}
+  Roomy (p ∷ ps) = Room (length (c .values)) (p .more + 1) (p .lent) × Roomy ps
+
+-- how many output times stretches have together
+unfoldable pub spanned : List Stretch → ℕ
+spanned [] = 0
+spanned (p ∷ ps) = p .more + 1 + spanned ps

@@ -1,10 +1,9 @@
--- Document 01's cases with †, as one table: each a list that the definitions compute and the list that the document states. Figures are their 64 bits.
+-- The stated cases that docs/CLAIMS.md lists, as one table: each a list that the definitions compute, and the list that is stated. Figures are their 64 bits.
 -- Assumes nothing.
 use mathlib.Core.List.{List, [], _∷_, map}
-use mathlib.Core.Bool.{true}
 use Prim.Native.Nat.{ℕ, suc, _*_}
-use lib.IntN.{ℤ, pos, natAbs}
-use lib.Ieee.{Float, nan, binary64, neg, ofBits, ofInt, toBits}
+use lib.IntN.{pos, natAbs}
+use lib.Ieee.{Float, binary64, neg, ofBits, ofInt, toBits}
 use Rattle.config.specs.Estimate.{estimateOf}
 use Rattle.config.specs.Reach.{reachOf}
 use Rattle.rollup.specs.declared.handler.RollupHandler.{RollupHandler}
@@ -80,6 +79,11 @@ table =
     ∷ record { computed = rolled Close (num 5 ∷ num 6 ∷ num 7 ∷ []) 3000 3000; stated = patterns (num 5 ∷ []) }
     -- Holt-Winters of one reading and no predecessor, with factors in range, is NaN
     ∷ record { computed = overAll (HoltWinters half half) (num 5 ∷ []); stated = 0x7FF8_0000_0000_0000 ∷ [] }
+    -- and so it is with either factor out of range, at 0 or at 1
+    ∷ record { computed = overAll (HoltWinters (num 0) half) (num 5 ∷ []); stated = 0x7FF8_0000_0000_0000 ∷ [] }
+    ∷ record { computed = overAll (HoltWinters (num 1) half) (num 5 ∷ []); stated = 0x7FF8_0000_0000_0000 ∷ [] }
+    ∷ record { computed = overAll (HoltWinters half (num 0)) (num 5 ∷ []); stated = 0x7FF8_0000_0000_0000 ∷ [] }
+    ∷ record { computed = overAll (HoltWinters half (num 1)) (num 5 ∷ []); stated = 0x7FF8_0000_0000_0000 ∷ [] }
     -- of 0.0, −0.0 the maximum is −0.0 and the minimum 0.0
     ∷ record { computed = overAll Max (num 0 ∷ neg (num 0) ∷ []); stated = 0x8000_0000_0000_0000 ∷ [] }
     ∷ record { computed = overAll Min (num 0 ∷ neg (num 0) ∷ []); stated = 0 ∷ [] }
@@ -90,8 +94,9 @@ table =
     ∷ record { computed = step Resets (1 ∷ 2 ∷ 3 ∷ []) (num 10 ∷ num 2 ∷ num 3 ∷ []); stated = patterns (num 10 ∷ num 12 ∷ num 25 ∷ []) }
     ∷ record { computed = step Resets (1 ∷ 2 ∷ []) (num 80 ∷ num 71 ∷ []); stated = patterns (num 80 ∷ num 80 ∷ []) }
     ∷ record { computed = step Resets (1 ∷ 2 ∷ []) (num 80 ∷ num 70 ∷ []); stated = patterns (num 80 ∷ num 150 ∷ []) }
-    -- intervals: 1500, 2999, 4000 gives 1, 1, 2
+    -- intervals: 1500, 2999, 4000 gives 1, 1, 2; a lone reading gives NaN
     ∷ record { computed = step Intervals (1500 ∷ 2999 ∷ 4000 ∷ []) (num 0 ∷ num 0 ∷ num 0 ∷ []); stated = patterns (num 1 ∷ num 1 ∷ num 2 ∷ []) }
+    ∷ record { computed = step Intervals (1500 ∷ []) (num 0 ∷ []); stated = 0x7FF8_0000_0000_0000 ∷ [] }
     -- times 0, 1000, 3000: estimate 1600, reach 8000
     ∷ record { computed = estimateOf (pos 0 ∷ pos 1000 ∷ pos 3000 ∷ []) ∷ []; stated = 1600 ∷ [] }
     ∷ record { computed = reachOf (estimateOf (pos 0 ∷ pos 1000 ∷ pos 3000 ∷ [])) ∷ []; stated = 8000 ∷ [] }

@@ -1,10 +1,10 @@
--- Document 01's examples of this crate, computed.
+-- Corners of settle, computed; the stated cases are in the table of `claims`.
 -- Assumes nothing.
-use mathlib.Core.Bool.{true, false}
-use mathlib.Core.List.{List, [], _∷_}
+use mathlib.Core.Bool.{true}
+use mathlib.Core.List.{[], _∷_}
 use mathlib.Core.Path.{_≡_, refl}
-use Prim.Native.Nat.{ℕ, _^_}
-use lib.IntN.{ℤ, pos}
+use Prim.Native.Nat.{_^_}
+use lib.IntN.{pos}
 use lib.Ieee.{add, sub, mul, round, lt, ofBits, ofInt, toUnsigned, toSigned, isNan}
 use Rattle.ieee.specs.Value.{floorOf}
 use Rattle.math.specs.Values.{kept}
@@ -15,11 +15,6 @@ use Rattle.series.specs.declared.refusal.Refusal.the-variants.{OverPointLimit, 
 use Rattle.config.specs.Estimate.{distances, distancesFrom, estimateOf}
 use Rattle.config.specs.Reach.{reachOf, boundedReach, windowOf}
 use Rattle.config.specs.Rows.{outside, overPointLimit, row10, settledOutside, settledRow8}
-
--- times 0, 1000, 3000: estimate 1600, reach 8000
-pub three-times : reachOf (estimateOf (pos 0 ∷ pos 1000 ∷ pos 3000 ∷ [])) ≡ 8000
-unfolding reachOf estimateOf distances distancesFrom quantileOf quantileSorted atRank rankOf between sortBy insertBy kept floorOf add sub mul round lt ofBits ofInt toUnsigned toSigned isNan
-three-times = refl
 
 -- rounded as floats are: 7, not 8
 pub eight-times : estimateOf (pos 0 ∷ pos 5 ∷ pos 10 ∷ pos 15 ∷ pos 20 ∷ pos 30 ∷ pos 40 ∷ pos 50 ∷ []) ≡ 7

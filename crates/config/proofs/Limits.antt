@@ -2,7 +2,7 @@
 -- Assumes nothing.
 use Prim.Native.Nat.{ℕ, _+_, _*_, _/_, _^_, _≤_, _<_, min, max}
 use native.Mathlib.Omega.{arith}
-use mathlib.Core.Path.{_≡_, refl, sym, _∙_}
+use mathlib.Core.Path.{_≡_, refl, sym, ap, _∙_}
 use mathlib.Core.Bool.{Bool, true, false, cond}
 use mathlib.Core.List.{List, [], _∷_}
 use borrow.Author.Tests.{leb-true, leb-false, ltb-true, ltb-false, le-leb, lt-ltb, le-ltb}
@@ -11,18 +11,17 @@ use lib.IntN.{ℤ, pos, negsuc, natAbs}
 use lib.Signed.{leZ}
 use Rattle.times.specs.Milli.{timeLimit}
 use Rattle.times.proofs.Order.{by-test}
+use Rattle.series.specs.Answers.{Reply, gives, replyOf}
 use Rattle.series.specs.Refusals.{firstOf}
 use Rattle.series.specs.Rows.{timesChecked}
 use Rattle.series.specs.declared.refusal.Checked.{Checked}
 use Rattle.series.specs.declared.refusal.Checked.the-variants.{Accepted, Refused}
 use Rattle.series.proofs.Accepted.{all-accept}
 use Rattle.config.specs.declared.settings.RollupConfig.{RollupConfig}
-use Rattle.config.specs.declared.settle.Settled.{Settled}
-use Rattle.config.specs.declared.settle.Settled.the-variants.{Accepted as SettledTo, Refused as NotSettled}
 use Rattle.config.specs.Estimate.{estimateOf}
 use Rattle.config.specs.Reach.{reachOf, cappedBy, boundedReach, raisedStep, windowOf}
 use Rattle.config.specs.Rows.{outside, settledLimit, settledRow8, settingsChecked, settledOutside}
-use Rattle.config.specs.Settle.{settledReach, settledWindow, settled, unlessRefused, settleOf}
+use Rattle.config.specs.Settle.{Settlement, settledReach, settledWindow, settlement, settleOf}
 use Rattle.config.proofs.Distances.{not-falling, within}
 use Rattle.config.proofs.Estimates.{estimate-small, estimate-some}
 use Rattle.config.proofs.Passed.{UpTo, Passed, settings-passed}
@@ -94,15 +93,16 @@ inside : (n : ℕ) → Settleable n → outside (pos 1) (pos settledLimit) (pos 
 unfolding outside
 inside n h = rw (le-ltb n 1 (h .some), le-ltb settledLimit n (h .small))
 
-accepted : (c : Checked) (s : Settled) (w r : ℤ) (n : ℕ) → unlessRefused c s ≡ SettledTo w r n → (c ≡ Accepted) × (s ≡ SettledTo w r n)
-accepted Accepted s w r n e = (refl, e)
-accepted (Refused x) s w r n e = absurd (let clash : _≡_ {A = ℕ} 0 1 = cc in omega arith)
+given : {A : Type 0} (c : Checked) (x y : A) → replyOf c x ≡ gives y → (c ≡ Accepted) × (x ≡ y)
+given {A} Accepted x y e = (refl, cc (ap (λ (a : Reply A). a .values) e))
+given {A} (Refused r) x y e = absurd (let clash : _≡_ {A = ℕ} 0 1 = cc (ap (λ (a : Reply A). a .values) e) in omega arith)
 
-pub settled-in-range : (ts : List ℤ) (rc : RollupConfig) (w r : ℤ) (n : ℕ) → settleOf ts rc ≡ SettledTo w r n → settledRow8 w r ≡ Accepted
+-- What an accepted settle gives passes row 8 of a settled run.
+pub settled-in-range : (ts : List ℤ) (rc : RollupConfig) (s : Settlement) → settleOf ts rc ≡ gives s → settledRow8 (s .window) (s .reach) ≡ Accepted
 unfolding settleOf settledOutside
-settled-in-range ts rc w r n e =
-    let both = accepted (firstOf (timesChecked ts ∷ settingsChecked rc ∷ [])) (settled ts rc) w r n e in
+settled-in-range ts rc s e =
+    let both = given (firstOf (timesChecked ts ∷ settingsChecked rc ∷ [])) (settlement ts rc) s e in
     let rows = all-accept (timesChecked ts ∷ settingsChecked rc ∷ []) (both .0) in
-    let window : w ≡ pos (settledWindow ts rc) = cc (both .1) in
-    let reach : r ≡ pos (settledReach ts rc) = cc (both .1) in
+    let window : s .window ≡ pos (settledWindow ts rc) = cc (both .1) in
+    let reach : s .reach ≡ pos (settledReach ts rc) = cc (both .1) in
     rw (window, reach, inside (settledWindow ts rc) (window-in ts rc (rows .0) (rows .1 .0)), inside (settledReach ts rc) (reach-in ts rc (rows .0) (rows .1 .0)))

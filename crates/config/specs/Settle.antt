@@ -1,13 +1,12 @@
--- What times and settings settle to, over all inputs.
+-- Settle, over all inputs: what times and settings settle to, or why they are refused.
 -- Assumes nothing.
 use mathlib.Core.List.{List, [], _∷_}
 use Prim.Native.Nat.{ℕ}
 use lib.IntN.{ℤ, pos, natAbs}
 use Rattle.times.specs.Grid.{gridSize}
-use Rattle.series.specs.Refusals.{firstOf, numberAndIndex}
+use Rattle.series.specs.Answers.{Reply, gives, refuses, replyOf}
+use Rattle.series.specs.Refusals.{firstOf}
 use Rattle.series.specs.Rows.{timesChecked}
-use Rattle.series.specs.declared.refusal.Checked.{Checked}
-use Rattle.series.specs.declared.refusal.Checked.the-variants.{Accepted, Refused}
 use Rattle.config.specs.declared.settings.RollupConfig.{RollupConfig}
 use Rattle.config.specs.declared.settle.Settled.{Settled}
 use Rattle.config.specs.declared.settle.Settled.the-variants.{Accepted as SettledTo, Refused as NotSettled}
@@ -23,19 +22,21 @@ unfoldable pub settledWindow : List ℤ → RollupConfig → ℕ
 settledWindow ts rc =
     windowOf (natAbs (rc .window)) (natAbs (rc .step)) (rc .«may_adjust_window») (rc .«is_default_rollup») (natAbs (rc .«lookback_delta»)) (settledReach ts rc)
 
--- what a call that no row refuses is answered
-abbrev pub settled : List ℤ → RollupConfig → Settled
-settled ts rc = SettledTo (pos (settledWindow ts rc)) (pos (settledReach ts rc)) (gridSize (rc .start) (rc .end) (rc .step))
+-- the window, the reach and the number of output times
+pub record Settlement : Type 0 where
+  pub window : ℤ
+  pub reach : ℤ
+  pub points : ℕ
 
-abbrev pub unlessRefused : Checked → Settled → Settled
-unlessRefused Accepted s = s
-unlessRefused (Refused r) s = NotSettled r
+-- the answer enum in numbers
+abbrev pub settledReply : Settled → Reply Settlement
+settledReply (SettledTo w r n) = gives (record { window = w; reach = r; points = n })
+settledReply (NotSettled r) = refuses r
+
+-- what times and settings that no row refuses settle to
+abbrev pub settlement : List ℤ → RollupConfig → Settlement
+settlement ts rc = record { window = pos (settledWindow ts rc); reach = pos (settledReach ts rc); points = gridSize (rc .start) (rc .end) (rc .step) }
 
 -- rows 2 to 4 and 6 to 11, lowest number first
-unfoldable pub settleOf : List ℤ → RollupConfig → Settled
-settleOf ts rc = unlessRefused (firstOf (timesChecked ts ∷ settingsChecked rc ∷ [])) (settled ts rc)
-
--- document 01's number and index of an answer, 0 and 0 where the call was accepted
-abbrev pub settleNumber : Settled → ℕ × ℕ
-settleNumber (SettledTo w r n) = (0, 0)
-settleNumber (NotSettled r) = numberAndIndex r
+unfoldable pub settleOf : List ℤ → RollupConfig → Reply Settlement
+settleOf ts rc = replyOf (firstOf (timesChecked ts ∷ settingsChecked rc ∷ [])) (settlement ts rc)

@@ -7,9 +7,10 @@ use super::settings::RollupConfig;
 use series::Checked;
 use series::Refusal;
 ghost use mathlib.Core.Path.{_≡_};
+ghost use Rattle.series.specs.Answers.{gives, replyOf};
 ghost use Rattle.series.specs.Rows.{timesChecked};
 ghost use Rattle.config.specs.Rows.{settingsChecked};
-ghost use Rattle.config.specs.Settle.{settled, settleOf, unlessRefused};
+ghost use Rattle.config.specs.Settle.{settledReply, settlement, settleOf};
 
 pub enum Settled {
     Accepted {
@@ -23,7 +24,7 @@ pub enum Settled {
 // What accepted times and settings settle to.
 fn settle_accepted(timestamps: &[i64], rc: RollupConfig) -> Settled
     requires { ⌜ (timesChecked (now timestamps) ≡ Checked.Accepted) × (settingsChecked rc ≡ Checked.Accepted) ⌝ }
-    ensures { λ r. ⌜ r ≡ settled (now (timestamps .entry)) rc ⌝ }
+    ensures { λ r. ⌜ settledReply r ≡ gives (settlement (now (timestamps .entry)) rc) ⌝ }
 {
     let scrape_interval = estimate::get_scrape_interval(timestamps);
     let max_prev_interval = reach::get_max_prev_interval(scrape_interval);
@@ -50,7 +51,7 @@ fn settle_accepted(timestamps: &[i64], rc: RollupConfig) -> Settled
 // The window, the reach and the number of output times, or the first of rows 6 to 11 that refuses.
 pub fn settle_settings(timestamps: &[i64], rc: RollupConfig) -> Settled
     requires { ⌜ timesChecked (now timestamps) ≡ Checked.Accepted ⌝ }
-    ensures { λ r. ⌜ r ≡ unlessRefused (settingsChecked rc) (settled (now (timestamps .entry)) rc) ⌝ }
+    ensures { λ r. ⌜ settledReply r ≡ replyOf (settingsChecked rc) (settlement (now (timestamps .entry)) rc) ⌝ }
 {
     let checked = settings::check_settings(rc);
     if let Checked::Refused(r) = checked {
@@ -61,7 +62,7 @@ pub fn settle_settings(timestamps: &[i64], rc: RollupConfig) -> Settled
 
 // The same, with rows 2 to 4 before.
 pub fn settle(timestamps: &[i64], rc: RollupConfig) -> Settled
-    ensures { λ r. ⌜ r ≡ settleOf (now (timestamps .entry)) rc ⌝ }
+    ensures { λ r. ⌜ settledReply r ≡ settleOf (now (timestamps .entry)) rc ⌝ }
 {
     let times = series::check_times(timestamps);
     if let Checked::Refused(r) = times {

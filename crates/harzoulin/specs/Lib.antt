@@ -1,5 +1,6 @@
 pub mod Choice
-pub mod Figures
 pub mod Numbers
+pub mod Exported
 pub mod Prepare
 pub mod Settle
+pub mod Runs

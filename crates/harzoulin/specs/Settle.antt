@@ -1,13 +1,12 @@
--- What `harzoulin_settle` answers, and what stands behind its pointers afterwards.
+-- `harzoulin_settle`: settle, with each setting as an argument and each value of the answer behind a pointer.
 -- Assumes nothing.
 use Prim.Native.Nat.{ℕ}
 use mathlib.Core.Bool.{Bool}
-use mathlib.Core.Path.{_≡_}
+use mathlib.Core.List.{List}
 use lib.IntN.{ℤ}
-use Rattle.config.specs.Settle.{settleNumber}
+use Rattle.config.specs.Settle.{Settlement, settleOf}
 use Rattle.config.specs.declared.settings.RollupConfig.{RollupConfig}
-use Rattle.config.specs.declared.settle.Settled.{Settled}
-use Rattle.config.specs.declared.settle.Settled.the-variants.{Accepted, Refused}
+use Rattle.series.specs.Answers.{Outcome, outcome}
 
 -- the settings that the numbers are
 abbrev pub configOf : ℤ → ℤ → ℤ → ℤ → Bool → Bool → ℤ → ℤ → ℤ → ℕ → RollupConfig
@@ -24,23 +23,10 @@ configOf start end step window adjust default lookback staleness limit perCall =
   «samples_scanned_per_call» = perCall;
 }
 
--- what stands behind a pointer that is set on acceptance only
-abbrev pub windowAfter : Settled → ℤ → ℤ
-windowAfter (Accepted w r n) old = w
-windowAfter (Refused x) old = old
+-- the values that stand behind the three pointers
+abbrev pub settledTo : ℤ → ℤ → ℕ → Settlement
+settledTo w r n = record { window = w; reach = r; points = n }
 
-abbrev pub reachAfter : Settled → ℤ → ℤ
-reachAfter (Accepted w r n) old = r
-reachAfter (Refused x) old = old
-
-abbrev pub pointsAfter : Settled → ℕ → ℕ
-pointsAfter (Accepted w r n) old = n
-pointsAfter (Refused x) old = old
-
--- the number and the index, and each pointer before and after
-pub record Settles (s : Settled) (k i : ℕ) (w w' r r' : ℤ) (n n' : ℕ) : Type 0 where
-  pub number : k ≡ settleNumber s .0
-  pub index : i ≡ settleNumber s .1
-  pub window : w' ≡ windowAfter s w
-  pub reach : r' ≡ reachAfter s r
-  pub points : n' ≡ pointsAfter s n
+-- it is lent no slice
+abbrev pub settleOutcome : List ℤ → RollupConfig → Outcome Settlement (Unit {0})
+settleOutcome ts rc = outcome (settleOf ts rc) tt

@@ -1,9 +1,11 @@
 // `harzoulin_settle`: `config::settle::settle` over numbers.
 
+use crate::refuse;
 use config::settings::RollupConfig;
 use config::settle::Settled;
-ghost use Rattle.config.specs.Settle.{settleOf};
-ghost use Rattle.harzoulin.specs.Settle.{configOf, Settles};
+ghost use mathlib.Core.Path.{_≡_};
+ghost use Rattle.harzoulin.specs.Exported.{crossed, exported};
+ghost use Rattle.harzoulin.specs.Settle.{configOf, settleOutcome, settledTo};
 
 // The settled window, the reach and the number of output times are set on acceptance only.
 #[no_mangle]
@@ -24,7 +26,7 @@ pub extern "C" fn harzoulin_settle(
     points: &mut u64,
     index: &mut u64,
 ) -> u64
-    ensures { λ r. ⌜ Settles (settleOf (now (timestamps .entry)) (configOf start end step window «may_adjust_window» «is_default_rollup» «lookback_delta» «min_staleness_interval» «max_points_per_series» «samples_scanned_per_call»)) r (now (index .exit)) (now («settled_window» .entry)) (now («settled_window» .exit)) (now (reach .entry)) (now (reach .exit)) (now (points .entry)) (now (points .exit)) ⌝ }
+    ensures { λ r. ⌜ exported r (now (index .exit)) (settledTo (now («settled_window» .exit)) (now (reach .exit)) (now (points .exit))) tt ≡ crossed (settleOutcome (now (timestamps .entry)) (configOf start end step window «may_adjust_window» «is_default_rollup» «lookback_delta» «min_staleness_interval» «max_points_per_series» «samples_scanned_per_call»)) (settledTo (now («settled_window» .entry)) (now (reach .entry)) (now (points .entry))) ⌝ }
 {
     let rc = RollupConfig {
         start,
@@ -40,10 +42,7 @@ pub extern "C" fn harzoulin_settle(
     };
     let settled = config::settle::settle(timestamps, rc);
     match settled {
-        Settled::Refused(r) => {
-            *index = r.index();
-            r.number()
-        }
+        Settled::Refused(r) => refuse(r, index),
         Settled::Accepted {
             window: w,
             reach: far,

@@ -1,15 +1,14 @@
--- Cases that document 01 states of common/math.rs, and corners that were run on the Rust, computed by antt. Assumes nothing.
+-- Corners of common/math.rs that were run on the Rust, computed by antt; the stated cases are in the table of `claims`. Assumes nothing.
 use mathlib.Core.Path.{_≡_, refl}
 use mathlib.Core.Bool.{false}
 use mathlib.Core.List.{[], _∷_}
 use lib.IntN.{pos}
 use lib.Ieee.{Float, nan, inf, binary64, isNan, ofBits}
 use Rattle.ieee.specs.Value.{absOf, totalLt}
-use Rattle.ieee.specs.Root.{sqrtOf}
 use Rattle.math.specs.Values.{kept}
 use Rattle.math.specs.Sort.{sortBy}
 use Rattle.math.specs.Quantile.{quantileOf, medianOf, madOf}
-use Rattle.math.specs.Deviation.{stdvarOf, stddevOf}
+use Rattle.math.specs.Deviation.{stdvarOf}
 use Rattle.math.specs.Mode.{modeOf}
 use Rattle.math.specs.Regression.{regressionOf}
 
@@ -22,14 +21,8 @@ minus-zero = ofBits binary64 0x8000000000000000
 abbrev zero : Float
 zero = ofBits binary64 0x0000000000000000
 
-abbrev half : Float
-half = ofBits binary64 0x3FE0000000000000
-
 abbrev one : Float
 one = ofBits binary64 0x3FF0000000000000
-
-abbrev one-and-a-half : Float
-one-and-a-half = ofBits binary64 0x3FF8000000000000
 
 abbrev two : Float
 two = ofBits binary64 0x4000000000000000
@@ -42,11 +35,6 @@ five = ofBits binary64 0x4014000000000000
 
 abbrev seven : Float
 seven = ofBits binary64 0x401C000000000000
-
--- quantile 0.5 of 1, 2 is 1.5
-quantile-half : quantileOf half (one ∷ two ∷ []) ≡ one-and-a-half
-unfolding quantileOf kept sortBy ofBits isNan
-quantile-half = refl
 
 -- an infinity times weight 0 is NaN
 quantile-infinity : quantileOf zero (one ∷ inf false ∷ []) ≡ nan
@@ -82,16 +70,6 @@ mad-of-none = refl
 stdvar-one : stdvarOf (seven ∷ []) ≡ zero
 unfolding stdvarOf
 stdvar-one = refl
-
--- the deviation of 1, 3 is 1
-stddev-two : stddevOf (one ∷ three ∷ []) ≡ one
-unfolding stdvarOf sqrtOf ofBits
-stddev-two = refl
-
--- the predecessor 7 stands for one sample: before the window 1 it gives 7
-mode-predecessor : modeOf seven (one ∷ []) ≡ seven
-unfolding modeOf sortBy totalLt ofBits
-mode-predecessor = refl
 
 -- the predecessor 2 does not join the samples 2, which stand behind the samples 1
 mode-least : modeOf two (one ∷ one ∷ two ∷ two ∷ []) ≡ one

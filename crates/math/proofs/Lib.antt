@@ -6,4 +6,5 @@ pub mod Halves
 pub mod Folding
 pub mod Filling
 pub mod Index
+pub mod Exact
 mod Examples

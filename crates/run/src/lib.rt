@@ -12,11 +12,12 @@ use series::Refusal;
 use series::check_series;
 use times::grid::points;
 ghost use mathlib.Core.Path.{_≡_};
-ghost use Rattle.run.specs.Run.{lent, runOf, settledRunOf, refusalOf};
+ghost use Rattle.series.specs.Answers.{outcome};
+ghost use Rattle.run.specs.Run.{figuresReply, lent, runOf, settledRunOf};
 
-pub mod execute;
-pub mod outputs;
-pub mod record;
+mod execute;
+mod outputs;
+mod record;
 
 // The number of samples counted, or the row that turned the call away.
 pub enum Figures {
@@ -34,9 +35,9 @@ pub struct SettledConfig {
     pub samples_scanned_per_call: u64,
 }
 
-// The refusal of an answer that is one.
+// A refusal to settle, handed on.
 fn refused(settled: Settled) -> Figures
-    ensures { λ r. ⌜ r ≡ refusalOf settled ⌝ }
+    ensures { λ r. ⌜ ((x : Refusal) → settled ≡ Settled.Refused x → r ≡ Figures.Refused x) ⌝ }
 {
     match settled {
         Settled::Refused(r) => Figures::Refused(r),
@@ -59,10 +60,7 @@ pub fn run(
     prepared: &mut [u64],
     work: &mut [f64],
 ) -> Figures
-    ensures answer { λ r. ⌜ r ≡ runOf (now (timestamps .entry)) (now (values .entry)) pre handler rc (lent (now («dst_values» .entry)) (now (prepared .entry)) (now (work .entry))) .answer ⌝ }
-    ensures output { λ _. ⌜ now («dst_values» .exit) ≡ runOf (now (timestamps .entry)) (now (values .entry)) pre handler rc (lent (now («dst_values» .entry)) (now (prepared .entry)) (now (work .entry))) .slices .dst ⌝ }
-    ensures prepared { λ _. ⌜ now (prepared .exit) ≡ runOf (now (timestamps .entry)) (now (values .entry)) pre handler rc (lent (now («dst_values» .entry)) (now (prepared .entry)) (now (work .entry))) .slices .prepared ⌝ }
-    ensures work { λ _. ⌜ now (work .exit) ≡ runOf (now (timestamps .entry)) (now (values .entry)) pre handler rc (lent (now («dst_values» .entry)) (now (prepared .entry)) (now (work .entry))) .slices .work ⌝ }
+    ensures { λ r. ⌜ outcome (figuresReply r) (lent (now («dst_values» .exit)) (now (prepared .exit)) (now (work .exit))) ≡ runOf (now (timestamps .entry)) (now (values .entry)) pre handler rc (lent (now («dst_values» .entry)) (now (prepared .entry)) (now (work .entry))) ⌝ }
 {
     let checked = check_series(timestamps, values);
     if let Checked::Refused(r) = checked {
@@ -105,10 +103,7 @@ pub fn settled_run(
     prepared: &mut [u64],
     work: &mut [f64],
 ) -> Figures
-    ensures answer { λ r. ⌜ r ≡ settledRunOf (now (timestamps .entry)) (now (values .entry)) pre handler sc (lent (now («dst_values» .entry)) (now (prepared .entry)) (now (work .entry))) .answer ⌝ }
-    ensures output { λ _. ⌜ now («dst_values» .exit) ≡ settledRunOf (now (timestamps .entry)) (now (values .entry)) pre handler sc (lent (now («dst_values» .entry)) (now (prepared .entry)) (now (work .entry))) .slices .dst ⌝ }
-    ensures prepared { λ _. ⌜ now (prepared .exit) ≡ settledRunOf (now (timestamps .entry)) (now (values .entry)) pre handler sc (lent (now («dst_values» .entry)) (now (prepared .entry)) (now (work .entry))) .slices .prepared ⌝ }
-    ensures work { λ _. ⌜ now (work .exit) ≡ settledRunOf (now (timestamps .entry)) (now (values .entry)) pre handler sc (lent (now («dst_values» .entry)) (now (prepared .entry)) (now (work .entry))) .slices .work ⌝ }
+    ensures { λ r. ⌜ outcome (figuresReply r) (lent (now («dst_values» .exit)) (now (prepared .exit)) (now (work .exit))) ≡ settledRunOf (now (timestamps .entry)) (now (values .entry)) pre handler sc (lent (now («dst_values» .entry)) (now (prepared .entry)) (now (work .entry))) ⌝ }
 {
     let checked = check_series(timestamps, values);
     if let Checked::Refused(r) = checked {

@@ -3,11 +3,12 @@
 
 ghost use mathlib.Core.Path.{_≡_};
 ghost use mathlib.Core.Option.{Option·getD};
-ghost use Prim.Native.Nat.{_^_};
-ghost use lib.IntN.{_-ℤ_};
+ghost use lib.ListN.{length};
 ghost use lib.Signed.{ltZ};
-ghost use Rattle.times.specs.Milli.{Within};
-ghost use Rattle.run.specs.Index.{valueAt, valueBefore, valueIf, predecessorAt, recordOf};
+ghost use Rattle.times.specs.Later.{NotFalling};
+ghost use Rattle.run.specs.Index.{Found, valueAt, valueBefore, valueIf, predecessorAt};
+ghost use Rattle.run.specs.Place.{Timed};
+ghost use Rattle.run.specs.Record.{readings, recordAt};
 use rollup::types::RollupFuncArg;
 
 // The value at k, and NaN where there is none.
@@ -63,8 +64,8 @@ pub fn record_at(
     window: i64,
     max_prev_interval: i64,
 ) -> RollupFuncArg
-    requires { ⌜ Within (2 ^ 50) «t_end» ⌝ ∗ ⌜ Within (2 ^ 52) window ⌝ ∗ ⌜ Within (2 ^ 52) «max_prev_interval» ⌝ }
-    ensures { λ r. ⌜ r ≡ recordOf (now (timestamps .entry)) (now (values .entry)) i j window «t_end» («t_end» -ℤ window -ℤ «max_prev_interval») ⌝ }
+    requires { ⌜ (length (now timestamps) ≡ length (now values)) × NotFalling (now timestamps) ⌝ ∗ ⌜ Found (now timestamps) window «t_end» i j ⌝ ∗ ⌜ Timed «t_end» window «max_prev_interval» ⌝ }
+    ensures { λ r. ⌜ r ≡ recordAt (readings (now (timestamps .entry)) (now (values .entry))) window «max_prev_interval» «t_end» .arg ⌝ }
 {
     let t_start = t_end - window;
     let limit = t_start - max_prev_interval;

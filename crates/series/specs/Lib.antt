@@ -1,5 +1,6 @@
 pub mod Patterns
 pub mod Steps
 pub mod Refusals
+pub mod Answers
 pub mod Rows
 pub mod Prepare

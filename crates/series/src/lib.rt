@@ -11,8 +11,9 @@ pub use rows::check_times;
 pub use steps::PreFunction;
 ghost use mathlib.Core.Path.{_≡_};
 ghost use lib.ListN.{length};
+ghost use Rattle.series.specs.Answers.{checkedReply, outcome};
 ghost use Rattle.series.specs.Patterns.{floats, patterns};
-ghost use Rattle.series.specs.Prepare.{prepareAnswer, preparedSlice};
+ghost use Rattle.series.specs.Prepare.{prepareOf};
 ghost use Rattle.series.specs.Rows.{seriesChecked};
 ghost use Rattle.series.specs.Steps.{preparedOf};
 
@@ -49,8 +50,7 @@ pub fn prepare(
     pre: PreFunction,
     prepared: &mut [u64],
 ) -> Checked
-    ensures answer { λ r. ⌜ r ≡ prepareAnswer (now (timestamps .entry)) (now (values .entry)) (length (now (prepared .entry))) ⌝ }
-    ensures slice { λ _. ⌜ now (prepared .exit) ≡ preparedSlice pre (now (timestamps .entry)) (now (values .entry)) (now (prepared .entry)) ⌝ }
+    ensures { λ r. ⌜ outcome (checkedReply r) (now (prepared .exit)) ≡ prepareOf pre (now (timestamps .entry)) (now (values .entry)) (now (prepared .entry)) ⌝ }
 {
     let checked = check_series(timestamps, values);
     if let Checked::Refused(r) = checked {

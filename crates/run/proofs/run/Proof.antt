@@ -4,21 +4,23 @@ use mathlib.Core.Path.{_≡_, refl, sym, ap, _∙_}
 use mathlib.Core.List.{List, [], _∷_}
 use borrow.Author.Needs.{needs}
 use lib.IntN.{ℤ, pos}
+use lib.ListN.{length}
 use mir.Syntax.{w64}
 use mir.Val.{ofZ, toZ}
 use mir.Facts.{toZ-ofZ}
 use Rattle.config.specs.Rows.{settingsChecked}
 use Rattle.config.specs.declared.settings.RollupConfig.{RollupConfig}
-use Rattle.config.specs.Settle.{settledReach, settledWindow}
+use Rattle.config.specs.Settle.{settledReach, settledWindow, settlement}
 use Rattle.config.proofs.Passed.{settings-passed}
+use Rattle.series.specs.Answers.{refuses, replyOf}
 use Rattle.series.specs.Rows.{row1, row5, seriesChecked, timesChecked}
 use Rattle.series.specs.declared.refusal.Checked.the-variants.{Accepted}
 use Rattle.series.proofs.Accepted.{all-accept}
 use Rattle.times.specs.Grid.{gridSize}
 use Rattle.times.proofs.Milli.{within-fits}
 use Rattle.run.specs.Place.{Settled}
-use Rattle.run.specs.Run.{lent, refusalOf, runChecked}
-use Rattle.run.proofs.Passed.{leaves-same, run-goes-by, same-executed, same-settled, settling-accepted, settling-refused}
+use Rattle.run.specs.Run.{lent, lentChecked, runChecked, runPlan}
+use Rattle.run.proofs.Passed.{run-goes-by, same-executed, same-settled, settling-accepted, settling-refused}
 use Rattle.run.proofs.run.Statement.{statement}
 use Rattle.run.proofs.run.Tie as tie
 
@@ -30,7 +32,7 @@ enum-known-checked c = search needs
 
 returns : tie.Need-returns
 unfolding runChecked
-returns c = rw (← c .before .before .before .check-series .ensures, c .before .checked .given .1) (refl, (refl, (refl, refl)))
+returns c = rw (← c .before .before .before .check-series .ensures, c .before .checked .given .1)
 
 enum-told : tie.Need-enum-told
 enum-told c = search needs
@@ -60,9 +62,16 @@ unfolding runChecked
 returns-2 c =
     let e = c .before in
     let t = e .before .before .before in
-    let rc = t .before .before .before .before .before .before .before .args .rc in
-    let refusal = settling-refused (settingsChecked rc) _ _ _ _ (sym (e .before .before .settle-settings .ensures) ∙ e .enum-told2 .given .1) in
-    rw (series-ok t, refusal) (c .refused .ensures ∙ ap refusalOf (e .enum-told2 .given .1), (refl, (refl, refl)))
+    let s = t .before .before .before .before .before .before .before in
+    let x = e .enum-told2 .given .0 .0 in
+    let ts = s .args .timestamps .now in
+    let vs = s .args .values .now in
+    let rc = s .args .rc in
+    let l = lent (s .args .dst-values .now) (s .args .prepared .now) (s .args .work .now) in
+    let said : refuses x ≡ replyOf (settingsChecked rc) (settlement ts rc) = rw (e .enum-told2 .given .1) at (e .before .before .settle-settings .ensures) in
+    rw (series-ok t, c .refused .ensures x (e .enum-told2 .given .1))
+    (settling-refused (settingsChecked rc) (settlement ts rc) x (lentChecked (length vs) (gridSize (rc .start) (rc .end) (rc .step)) l ∷ [])
+    (runPlan ts vs (s .args .pre) (s .args .handler) rc) l said)
 
 -- what the settled answer says of the settings
 module _ (c : tie.After-known-told2) where
@@ -77,7 +86,8 @@ module _ (c : tie.After-known-told2) where
 
   settled-ok : (settingsChecked rc ≡ Accepted) × (c .before .settled .given .0 .0 ≡ pos (settledWindow us rc)) × (c .before .settled .given .0 .1 .0 ≡ pos (settledReach us rc))
       × (c .before .settled .given .0 .1 .1 .0 ≡ gridSize (rc .start) (rc .end) (rc .step))
-  settled-ok = settling-accepted (settingsChecked rc) _ _ _ _ _ _ (sym (c .before .before .before .settle-settings .ensures) ∙ c .before .settled .given .1)
+  settled-ok =
+      settling-accepted (settingsChecked rc) (settlement us rc) _ _ _ (rw (c .before .settled .given .1) at (c .before .before .before .settle-settings .ensures))
 
 abbrev back : ℤ → ℤ
 back z = toZ w64 (ofZ w64 z)
@@ -122,7 +132,7 @@ returns-3 c =
     let x = c .before .before .before .before .before .before in
     let k = x .before .before .before .before .before .before in
     let same = same-executed (first k) (apart k) (settled-ok k .3) (window-is k) (reach-is k) (rc k .«samples_scanned_per_call») (us k) (start k .args .values .now) (start k .args .pre) (start k .args .handler) (lent (start k .args .dst-values .now) (start k .args .prepared .now) (start k .args .work .now)) in
-    rw (series-accepted k, settled-ok k .0) (leaves-same (x .execute-within .ensures) same)
+    rw (series-accepted k, settled-ok k .0) (x .execute-within .ensures ∙ same)
 
 pub run-spec : {M : Type 1} → statement M
 run-spec =

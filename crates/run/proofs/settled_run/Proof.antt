@@ -13,7 +13,7 @@ use Rattle.times.specs.Grid.{Spans, gridSize}
 use Rattle.run.specs.declared.SettledConfig.{SettledConfig}
 use Rattle.run.specs.Place.{Settled}
 use Rattle.run.specs.Run.{lent, settledChecked}
-use Rattle.run.proofs.Passed.{leaves-same, same-executed, same-settled, settled-goes-by, settled-spans}
+use Rattle.run.proofs.Passed.{same-executed, same-settled, settled-goes-by, settled-spans}
 use Rattle.run.proofs.settled_run.Statement.{statement}
 use Rattle.run.proofs.settled_run.Tie as tie
 
@@ -25,7 +25,7 @@ enum-known-checked c = search needs
 
 returns : tie.Need-returns
 unfolding settledChecked
-returns c = rw (← c .before .before .before .check-series .ensures, c .before .checked .given .1) (refl, (refl, (refl, refl)))
+returns c = rw (← c .before .before .before .check-series .ensures, c .before .checked .given .1)
 
 enum-told : tie.Need-enum-told
 enum-told c = search needs
@@ -73,7 +73,7 @@ returns-2 : tie.Need-returns-2
 unfolding settledChecked
 returns-2 c =
     let s = c .before .before .before in
-    rw (series-ok s, ← settings-are s, c .before .settings .given .1) (refl, (refl, (refl, refl)))
+    rw (series-ok s, ← settings-are s, c .before .settings .given .1)
 
 enum-told-2 : tie.Need-enum-told-2
 enum-told-2 c = search needs
@@ -121,7 +121,7 @@ returns-3 c =
     let p = x .before .before .before .before .before .before .before .before in
     let s = k p in
     let same = same-executed (first s) (apart s) (points-are p) (window-is s) (reach-is s) (sc s .«samples_scanned_per_call») (start s .args .timestamps .now) (start s .args .values .now) (start s .args .pre) (start s .args .handler) (lent (start s .args .dst-values .now) (start s .args .prepared .now) (start s .args .work .now)) in
-    rw (series-ok s, settings-ok (told p)) (leaves-same (x .execute-within .ensures) same)
+    rw (series-ok s, settings-ok (told p)) (x .execute-within .ensures ∙ same)
 
 pub settled-run-spec : {M : Type 1} → statement M
 settled-run-spec =

@@ -3,10 +3,11 @@
 use mathlib.Core.List.{[], _∷_}
 use mathlib.Core.Path.{_≡_, sym, ap, _∙_}
 use borrow.Author.Needs.{needs}
+use Rattle.series.specs.Answers.{replyOf}
 use Rattle.series.specs.Refusals.{firstOf}
 use Rattle.series.specs.declared.refusal.Checked.{Checked}
 use Rattle.config.specs.Rows.{settingsChecked}
-use Rattle.config.specs.Settle.{settled, settleOf, unlessRefused}
+use Rattle.config.specs.Settle.{settlement, settleOf}
 use Rattle.config.proofs.Passed.{last-row}
 use Rattle.config.proofs.settle.settle.Statement.{statement}
 use Rattle.config.proofs.settle.settle.Tie as tie
@@ -34,7 +35,7 @@ returns-2 c =
     let s = t .before .before .before in
     let last : settingsChecked (s .args .rc) ≡ firstOf (settingsChecked (s .args .rc) ∷ []) = sym (last-row (settingsChecked (s .args .rc))) in
     rw (← t .before .before .check-times .ensures, t .enum-told .given .1)
-    (c .settle-settings .ensures ∙ ap (λ (x : Checked). unlessRefused x (settled (s .args .timestamps .now) (s .args .rc))) last)
+    (c .settle-settings .ensures ∙ ap (λ (x : Checked). replyOf x (settlement (s .args .timestamps .now) (s .args .rc))) last)
 
 pub settle-spec : {M : Type 1} → statement M
 settle-spec = tie.close (tie.spec check-times-requires enum-known-times returns enum-told settle-settings-requires returns-2)

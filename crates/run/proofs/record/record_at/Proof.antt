@@ -1,18 +1,20 @@
--- `run::record::record_at` meets its contract: times within 2^50 and lengths within 2^52 leave both differences in an `i64`, and each field is a callee's answer.
+-- `run::record::record_at` meets its contract: times within 2^50 and lengths within 2^52 leave both differences in an `i64`, each field is a callee's answer,
+-- and what is read at the indexes is the record.
 -- Assumes nothing.
 use borrow.Author.Needs.{needs}
 use mir.Syntax.{w64}
 use mir.ValLaws.{toZ-ofZ}
 use Rattle.times.proofs.Milli.{within-fits}
+use Rattle.run.proofs.Index.{record-is}
 use Rattle.run.proofs.Limits.{start-fits, limit-fits, limit-back}
 use Rattle.run.proofs.record.record_at.Statement.{statement}
 use Rattle.run.proofs.record.record_at.Tie as tie
 
 sub-t-start : tie.Need-sub-t-start
-sub-t-start c = start-fits (c .before .pre .0) (c .before .pre .1 .0)
+sub-t-start c = let t = c .before .pre .1 .1 in start-fits (t .time) (t .window)
 
 sub-limit : tie.Need-sub-limit
-sub-limit c = limit-fits (c .before .pre .0) (c .before .pre .1 .0) (c .before .pre .1 .1)
+sub-limit c = let t = c .before .pre .1 .1 in limit-fits (t .time) (t .window) (t .reach)
 
 predecessor-time-requires : tie.Need-predecessor-time-requires
 predecessor-time-requires c κs = search needs
@@ -30,11 +32,17 @@ returns : tie.Need-returns
 returns c =
     let s = c .before .before .before .before .before in
     let p = c .before .before .before .predecessor-time in
+    let t = s .pre .1 .1 in
+    let us = s .args .timestamps .now in
+    let vs = s .args .values .now in
+    let w = s .args .window in
+    let r = s .args .max-prev-interval in
     cc (
-      limit-back (s .pre .0) (s .pre .1 .0) (s .pre .1 .1),
+      record-is us vs (s .pre .0 .0) (s .pre .0 .1) w r (s .args .t-end) (s .args .i) (s .args .j) (s .pre .1 .0),
+      limit-back (t .time) (t .window) (t .reach),
       toZ-ofZ w64 (p .result) (record { sfits = p .ok }),
-      toZ-ofZ w64 _ (within-fits tt (s .pre .0)),
-      toZ-ofZ w64 _ (within-fits tt (s .pre .1 .0)),
+      toZ-ofZ w64 _ (within-fits tt (t .time)),
+      toZ-ofZ w64 _ (within-fits tt (t .window)),
       p .ensures,
       c .before .before .value-before .ensures,
       c .before .value-if .ensures,

@@ -1,18 +1,24 @@
-// `harzoulin_run` and `harzoulin_settled_run`: `run::run` and `run::settled_run` over numbers.
-// 28 where a number names no step or no rollup, before all else. The count is set on acceptance only.
+// `harzoulin_run` and `harzoulin_settled_run`: `run::run` and `run::settled_run` with step and rollup by number.
+// The count is set on acceptance only.
 
 use crate::Step;
 use crate::choice::Chosen;
+use crate::choice::rollup_of;
+use crate::refuse;
+use crate::step_of;
 use config::settings::RollupConfig;
 use rollup::handler::RollupHandler;
 use run::Figures;
 use run::SettledConfig;
 use series::PreFunction;
+use series::Refusal;
+ghost use mathlib.Core.Option.{Option·getD};
 ghost use mathlib.Core.Path.{_≡_};
-ghost use Rattle.run.specs.Run.{lent};
+ghost use Rattle.run.specs.Run.{figuresReply, lent};
 ghost use Rattle.harzoulin.specs.Choice.{rollupOf};
-ghost use Rattle.harzoulin.specs.Figures.{Replies, choiceOf, countAfter, figuresNumber, runReply, settledConfigOf, settledRunReply};
+ghost use Rattle.harzoulin.specs.Exported.{crossed, exported};
 ghost use Rattle.harzoulin.specs.Numbers.{stepOf};
+ghost use Rattle.harzoulin.specs.Runs.{choiceOf, numberedRun, numberedSettledRun, settledConfigOf};
 ghost use Rattle.harzoulin.specs.Settle.{configOf};
 
 // A step and a rollup, where both numbers name one.
@@ -27,11 +33,11 @@ pub enum Choice {
 fn choose(pre: u32, rollup: u32, first: f64, second: f64) -> Choice
     ensures { λ r. ⌜ r ≡ choiceOf (stepOf pre) (rollupOf rollup first second) ⌝ }
 {
-    let step = crate::step_of(pre);
+    let step = step_of(pre);
     let Step::Known(known) = step else {
         return Choice::Unnamed;
     };
-    let chosen = crate::choice::rollup_of(rollup, first, second);
+    let chosen = rollup_of(rollup, first, second);
     let Chosen::Rollup(handler) = chosen else {
         return Choice::Unnamed;
     };
@@ -41,16 +47,14 @@ fn choose(pre: u32, rollup: u32, first: f64, second: f64) -> Choice
     }
 }
 
+// The answer's number, with the index and the count behind the pointers.
 fn reply(figures: Figures, count: &mut u64, index: &mut u64) -> u64
-    ensures number { λ r. ⌜ r ≡ figuresNumber figures .0 ⌝ }
-    ensures index { λ _. ⌜ now (index .exit) ≡ figuresNumber figures .1 ⌝ }
-    ensures count { λ _. ⌜ now (count .exit) ≡ countAfter figures (now (count .entry)) ⌝ }
+    ensures number { λ r. ⌜ r ≡ figuresReply figures .number ⌝ }
+    ensures index { λ _. ⌜ now (index .exit) ≡ figuresReply figures .index ⌝ }
+    ensures count { λ _. ⌜ now (count .exit) ≡ Option·getD (figuresReply figures .values) (now (count .entry)) ⌝ }
 {
     match figures {
-        Figures::Refused(r) => {
-            *index = r.index();
-            r.number()
-        }
+        Figures::Refused(r) => refuse(r, index),
         Figures::Counted(n) => {
             *count = n;
             *index = 0;
@@ -83,7 +87,7 @@ pub extern "C" fn harzoulin_run(
     count: &mut u64,
     index: &mut u64,
 ) -> u64
-    ensures { λ r. ⌜ Replies (runReply (choiceOf (stepOf pre) (rollupOf rollup first second)) (now (timestamps .entry)) (now (values .entry)) (configOf start end step window «may_adjust_window» «is_default_rollup» «lookback_delta» «min_staleness_interval» «max_points_per_series» «samples_scanned_per_call») (lent (now («dst_values» .entry)) (now (prepared .entry)) (now (work .entry))) (now (count .entry))) r (now (index .exit)) (now (count .exit)) (lent (now («dst_values» .exit)) (now (prepared .exit)) (now (work .exit))) ⌝ }
+    ensures { λ r. ⌜ exported r (now (index .exit)) (now (count .exit)) (lent (now («dst_values» .exit)) (now (prepared .exit)) (now (work .exit))) ≡ crossed (numberedRun (choiceOf (stepOf pre) (rollupOf rollup first second)) (now (timestamps .entry)) (now (values .entry)) (configOf start end step window «may_adjust_window» «is_default_rollup» «lookback_delta» «min_staleness_interval» «max_points_per_series» «samples_scanned_per_call») (lent (now («dst_values» .entry)) (now (prepared .entry)) (now (work .entry)))) (now (count .entry)) ⌝ }
 {
     let choice = choose(pre, rollup, first, second);
     let Choice::Named {
@@ -91,8 +95,7 @@ pub extern "C" fn harzoulin_run(
         handler,
     } = choice
     else {
-        *index = 0;
-        return 28;
+        return refuse(Refusal::UnknownNumber, index);
     };
     let rc = RollupConfig {
         start,
@@ -139,7 +142,7 @@ pub extern "C" fn harzoulin_settled_run(
     count: &mut u64,
     index: &mut u64,
 ) -> u64
-    ensures { λ r. ⌜ Replies (settledRunReply (choiceOf (stepOf pre) (rollupOf rollup first second)) (now (timestamps .entry)) (now (values .entry)) (settledConfigOf start end step window reach «samples_scanned_per_call») (lent (now («dst_values» .entry)) (now (prepared .entry)) (now (work .entry))) (now (count .entry))) r (now (index .exit)) (now (count .exit)) (lent (now («dst_values» .exit)) (now (prepared .exit)) (now (work .exit))) ⌝ }
+    ensures { λ r. ⌜ exported r (now (index .exit)) (now (count .exit)) (lent (now («dst_values» .exit)) (now (prepared .exit)) (now (work .exit))) ≡ crossed (numberedSettledRun (choiceOf (stepOf pre) (rollupOf rollup first second)) (now (timestamps .entry)) (now (values .entry)) (settledConfigOf start end step window reach «samples_scanned_per_call») (lent (now («dst_values» .entry)) (now (prepared .entry)) (now (work .entry)))) (now (count .entry)) ⌝ }
 {
     let choice = choose(pre, rollup, first, second);
     let Choice::Named {
@@ -147,8 +150,7 @@ pub extern "C" fn harzoulin_settled_run(
         handler,
     } = choice
     else {
-        *index = 0;
-        return 28;
+        return refuse(Refusal::UnknownNumber, index);
     };
     let sc = SettledConfig {
         start,

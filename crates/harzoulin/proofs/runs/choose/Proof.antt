@@ -1,9 +1,9 @@
--- `harzoulin::figures::choose` meets its contract.
+-- `harzoulin::runs::choose` meets its contract.
 -- Assumes nothing.
 use mathlib.Core.Path.{sym, _∙_}
 use borrow.Author.Needs.{needs}
-use Rattle.harzoulin.proofs.figures.choose.Statement.{statement}
-use Rattle.harzoulin.proofs.figures.choose.Tie as tie
+use Rattle.harzoulin.proofs.runs.choose.Statement.{statement}
+use Rattle.harzoulin.proofs.runs.choose.Tie as tie
 
 step-of-requires : tie.Need-step-of-requires
 step-of-requires c κs = search needs

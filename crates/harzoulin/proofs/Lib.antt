@@ -1,0 +1,2 @@
+pub mod Crossed
+pub mod Settings
