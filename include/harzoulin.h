@@ -1,12 +1,19 @@
 /* The rollup core: figures from a series of readings. Build: rt staticlib harzoulin.
  *
- * A slice is a pointer and a length. Times are milliseconds. A value is the 64 bits of a binary64,
- * so an array of doubles may be handed where a uint64_t * is asked; a NaN that is written is
- * 0x7FF8000000000000. Slices handed to one call do not overlap.
+ * A slice is a pointer and a length, the number of its entries. Times are milliseconds. A value is
+ * the 64 bits of a binary64, so an array of doubles may be handed where a uint64_t * is asked; a
+ * NaN that is written is 0x7FF8000000000000.
  *
- * Each function returns 0 where the call was accepted, else the number of the refusal, and sets
- * *index: the first offending reading for refusals 3 to 5, else 0. A refusal leaves every slice as
- * it was. */
+ * Each function returns one of enum harzoulin_refusal and sets *index: the first offending reading,
+ * counted from 0, for refusals 3 to 5, else 0. A refusal leaves every slice as it was.
+ *
+ * A caller sees to three things. A slice has at least as many entries as its length says. No
+ * pointer is null, not that of an empty slice either, which points to anything of its type; nothing
+ * is read or written there. And what is handed to one call does not overlap: the slices lie apart,
+ * and count, index and the other single places are each an object of its own.
+ *
+ * A call keeps nothing for a later one, so calls may run on several threads at once, if what each
+ * of them writes is handed to no other. */
 #ifndef HARZOULIN_H
 #define HARZOULIN_H
 
@@ -14,11 +21,110 @@
 #include <stddef.h>
 #include <stdint.h>
 
+#ifdef __cplusplus
+extern "C" {
+#endif
+
+/* The preparing steps, for pre. */
+enum harzoulin_step {
+    HARZOULIN_STEP_NONE = 0,
+    HARZOULIN_STEP_RESETS = 1,
+    HARZOULIN_STEP_DELTA = 2,
+    HARZOULIN_STEP_DERIV = 3,
+    HARZOULIN_STEP_INTERVALS = 4
+};
+
+/* The rollups of docs/ROLLUPS.md, for rollup. */
+enum harzoulin_rollup {
+    HARZOULIN_ROLLUP_AVG = 0,
+    HARZOULIN_ROLLUP_MIN = 1,
+    HARZOULIN_ROLLUP_MAX = 2,
+    HARZOULIN_ROLLUP_MAD = 3,
+    HARZOULIN_ROLLUP_MEDIAN = 4,
+    HARZOULIN_ROLLUP_TMIN = 5,
+    HARZOULIN_ROLLUP_TMAX = 6,
+    HARZOULIN_ROLLUP_TFIRST = 7,
+    HARZOULIN_ROLLUP_TLAST = 8,
+    HARZOULIN_ROLLUP_TLAST_CHANGE = 9,
+    HARZOULIN_ROLLUP_SUM = 10,
+    HARZOULIN_ROLLUP_SUM2 = 11,
+    HARZOULIN_ROLLUP_RATE_OVER_SUM = 12,
+    HARZOULIN_ROLLUP_RANGE = 13,
+    HARZOULIN_ROLLUP_ABSENT = 14,
+    HARZOULIN_ROLLUP_PRESENT = 15,
+    HARZOULIN_ROLLUP_COUNT = 16,
+    HARZOULIN_ROLLUP_STDDEV = 17,
+    HARZOULIN_ROLLUP_STDVAR = 18,
+    HARZOULIN_ROLLUP_INCREASE_PURE = 19,
+    HARZOULIN_ROLLUP_LIFETIME = 20,
+    HARZOULIN_ROLLUP_LAG = 21,
+    HARZOULIN_ROLLUP_SCRAPE_INTERVAL = 22,
+    HARZOULIN_ROLLUP_CHANGES = 23,
+    HARZOULIN_ROLLUP_CHANGES_PROMETHEUS = 24,
+    HARZOULIN_ROLLUP_INCREASES = 25,
+    HARZOULIN_ROLLUP_RESETS = 26,
+    HARZOULIN_ROLLUP_MODE_OVER_TIME = 27,
+    HARZOULIN_ROLLUP_ASCENT_OVER_TIME = 28,
+    HARZOULIN_ROLLUP_DESCENT_OVER_TIME = 29,
+    HARZOULIN_ROLLUP_ZSCORE_OVER_TIME = 30,
+    HARZOULIN_ROLLUP_FIRST = 31,
+    HARZOULIN_ROLLUP_DEFAULT = 32,
+    HARZOULIN_ROLLUP_DISTINCT = 33,
+    HARZOULIN_ROLLUP_DERIV_SLOW = 34,
+    HARZOULIN_ROLLUP_DERIV_FAST = 35,
+    HARZOULIN_ROLLUP_IDERIV = 36,
+    HARZOULIN_ROLLUP_DELTA = 37,
+    HARZOULIN_ROLLUP_DELTA_PROMETHEUS = 38,
+    HARZOULIN_ROLLUP_IDELTA = 39,
+    HARZOULIN_ROLLUP_OPEN = 40,
+    HARZOULIN_ROLLUP_CLOSE = 41,
+    HARZOULIN_ROLLUP_HIGH = 42,
+    HARZOULIN_ROLLUP_LOW = 43,
+    HARZOULIN_ROLLUP_INTEGRATE = 44,
+    HARZOULIN_ROLLUP_QUANTILE = 45,
+    HARZOULIN_ROLLUP_PREDICT_LINEAR = 46,
+    HARZOULIN_ROLLUP_HOLT_WINTERS = 47
+};
+
+/* What a function returns: the lowest number that applies to it, but 28 before all others. Ends of
+ * ranges are inside. */
+enum harzoulin_refusal {
+    HARZOULIN_ACCEPTED = 0,
+    /* timestamps and values differ in length */
+    HARZOULIN_REFUSED_LENGTHS = 1,
+    /* over 16,777,216 readings */
+    HARZOULIN_REFUSED_READINGS = 2,
+    /* a time outside -2^50..2^50 */
+    HARZOULIN_REFUSED_TIME = 3,
+    /* a time not above the one before */
+    HARZOULIN_REFUSED_ORDER = 4,
+    /* a value NaN or infinite */
+    HARZOULIN_REFUSED_VALUE = 5,
+    /* step outside 1..2^50 */
+    HARZOULIN_REFUSED_STEP = 6,
+    /* start or end outside -2^50..2^50, or start > end */
+    HARZOULIN_REFUSED_SPAN = 7,
+    /* window outside 0..2^50; in a settled run window or reach outside 1..2^52 */
+    HARZOULIN_REFUSED_WINDOW = 8,
+    /* lookback_delta, min_staleness_interval or max_points_per_series outside 0..2^50, or
+     * samples_scanned_per_call over 65,535 */
+    HARZOULIN_REFUSED_LIMITS = 9,
+    /* max_points_per_series above 0 and below (end - start) / (step + 1), rounded down */
+    HARZOULIN_REFUSED_POINTS = 10,
+    /* over 16,777,216 output times */
+    HARZOULIN_REFUSED_GRID = 11,
+    /* dst_values shorter than the grid */
+    HARZOULIN_REFUSED_OUTPUT = 12,
+    /* prepared shorter than the series */
+    HARZOULIN_REFUSED_PREPARED = 13,
+    /* work shorter than twice the series */
+    HARZOULIN_REFUSED_WORK = 14,
+    /* pre or rollup names none */
+    HARZOULIN_REFUSED_CHOICE = 28
+};
+
 /* Writes the prepared values to the first entries of prepared, and nothing past them.
- * pre: 0 none, 1 resets, 2 delta, 3 deriv, 4 intervals; any other number is refused 28.
- * Refusals: 1 times and values differ in length; 2 over 16,777,216 readings; 3 a time outside
- * +-2^50; 4 a time not above the one before; 5 a value NaN or infinite; 13 prepared is shorter than
- * the series. */
+ * pre is one of enum harzoulin_step. Refusals: 1 to 5, 13, 28. */
 uint64_t harzoulin_prepare(const int64_t *timestamps, size_t timestamps_len, const uint64_t *values,
                            size_t values_len, uint32_t pre, uint64_t *prepared, size_t prepared_len,
                            uint64_t *index);
@@ -26,10 +132,7 @@ uint64_t harzoulin_prepare(const int64_t *timestamps, size_t timestamps_len, con
 /* Settles a window, a reach and the number of output times, which are set on acceptance only.
  * A window of 0 stands for the step; a lookback delta, a staleness interval or a point limit of 0
  * for none. The output times are start, start + step, and so on, not past end.
- * Refusals: 2 to 4 as above; 6 step outside 1..2^50; 7 start or end outside +-2^50, or start > end;
- * 8 window outside 0..2^50; 9 lookback delta, staleness interval or point limit outside 0..2^50, or
- * samples_scanned_per_call over 65,535; 10 a point limit above 0 and below
- * (end - start) / (step + 1), rounded down; 11 over 16,777,216 output times. */
+ * Refusals: 2 to 4, 6 to 11. */
 uint64_t harzoulin_settle(const int64_t *timestamps, size_t timestamps_len, int64_t start,
                           int64_t end, int64_t step, int64_t window, bool may_adjust_window,
                           bool is_default_rollup, int64_t lookback_delta,
@@ -37,15 +140,15 @@ uint64_t harzoulin_settle(const int64_t *timestamps, size_t timestamps_len, int6
                           uint64_t samples_scanned_per_call, int64_t *settled_window,
                           int64_t *reach, uint64_t *points, uint64_t *index);
 
-/* Writes one value per output time to the first entries of dst_values, and nothing past them, and
- * sets *count, on acceptance only, to the number of samples counted. prepared and work are room
- * that the call writes: afterwards the first values_len entries of prepared are the prepared values
- * and the first 2 * values_len of work are +0.0; what lies past them is untouched.
- * rollup: 0 to 47, the place in docs/ROLLUPS.md; first and second are the parameters of quantile
- * (45), predict_linear (46) and holt_winters (47), which no other rollup reads. A number that names
- * no step or no rollup is refused 28, before all else.
- * Refusals: 1 to 11 as above; 12 dst_values is shorter than
- * the grid; 13 prepared is shorter than the series; 14 work is shorter than twice the series. */
+/* Writes one value per output time to the first entries of dst_values, and nothing past them.
+ * prepared and work are room that the call writes: afterwards the first values_len entries of
+ * prepared are the prepared values and the first 2 * values_len of work are +0.0; what lies past
+ * them is untouched. *count is set on acceptance only: values_len, and for each output time
+ * samples_scanned_per_call, or where that is 0 the number of readings in its window.
+ * pre is one of enum harzoulin_step, rollup one of enum harzoulin_rollup. first is phi for
+ * quantile, the seconds for predict_linear and the smoothing factor for holt_winters, second the
+ * trend factor for holt_winters; no other rollup reads them, and no value of them is refused.
+ * Refusals: 1 to 14, 28. */
 uint64_t harzoulin_run(const int64_t *timestamps, size_t timestamps_len, const uint64_t *values,
                        size_t values_len, uint32_t pre, uint32_t rollup, double first,
                        double second, int64_t start, int64_t end, int64_t step, int64_t window,
@@ -55,10 +158,9 @@ uint64_t harzoulin_run(const int64_t *timestamps, size_t timestamps_len, const u
                        size_t dst_values_len, uint64_t *prepared, size_t prepared_len,
                        double *work, size_t work_len, uint64_t *count, uint64_t *index);
 
-/* The same with the window and the reach that harzoulin_settle gave, so that runs over parts of a
- * grid give the answers of the whole.
- * Refusals: as above, but 8 is a window or a reach outside 1..2^52, 9 is samples_scanned_per_call
- * over 65,535, and there is no 10. */
+/* The same with the window and the reach that harzoulin_settle gave. Runs over consecutive parts of
+ * a grid write the values of the run over all of it; their counts add up to its count and, for each
+ * part but one, values_len. Refusals: 1 to 9, 11 to 14, 28. */
 uint64_t harzoulin_settled_run(const int64_t *timestamps, size_t timestamps_len,
                                const uint64_t *values, size_t values_len, uint32_t pre,
                                uint32_t rollup, double first, double second, int64_t start,
@@ -66,5 +168,9 @@ uint64_t harzoulin_settled_run(const int64_t *timestamps, size_t timestamps_len,
                                uint64_t samples_scanned_per_call, uint64_t *dst_values,
                                size_t dst_values_len, uint64_t *prepared, size_t prepared_len,
                                double *work, size_t work_len, uint64_t *count, uint64_t *index);
+
+#ifdef __cplusplus
+}
+#endif
 
 #endif

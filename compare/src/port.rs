@@ -39,18 +39,21 @@ pub fn prepare(
     prepared: &mut [u64],
     index: &mut u64,
 ) -> u64 {
+    let (times, values) = (Times::of(timestamps), Values::of(values));
+    let prepared = Prepared::of(prepared);
     #[cfg(port_prepare)]
-    return unsafe { ask!(harzoulin_prepare, [timestamps, values], [pre], [prepared], [*index]) };
+    return unsafe { ask!(harzoulin_prepare, [times, values], [pre], [prepared], [*index]) };
     panic!("the archive does not have harzoulin_prepare")
 }
 
 fn settle(case: &Case, o: &mut Outcome) -> u64 {
     let s = &case.settings;
+    let times = Times::of(&case.timestamps);
     #[cfg(port_settle)]
     return unsafe {
         ask!(
             harzoulin_settle,
-            [case.timestamps],
+            [times],
             [
                 s.start,
                 s.end,
@@ -72,11 +75,14 @@ fn settle(case: &Case, o: &mut Outcome) -> u64 {
 
 pub fn run(case: &Case, o: &mut Outcome) -> u64 {
     let s = &case.settings;
+    let (times, values) = (Times::of(&case.timestamps), Values::of(&case.values));
+    let (output, prepared) = (Output::of(&mut o.dst_values), Prepared::of(&mut o.prepared));
+    let work = Work::of(&mut o.work);
     #[cfg(port_run)]
     return unsafe {
         ask!(
             harzoulin_run,
-            [case.timestamps, case.values],
+            [times, values],
             [
                 case.pre,
                 case.rollup,
@@ -93,7 +99,7 @@ pub fn run(case: &Case, o: &mut Outcome) -> u64 {
                 s.max_points_per_series,
                 s.samples_scanned_per_call,
             ],
-            [o.dst_values, o.prepared, o.work],
+            [output, prepared, work],
             [o.count, o.index]
         )
     };
@@ -102,11 +108,14 @@ pub fn run(case: &Case, o: &mut Outcome) -> u64 {
 
 fn settled_run(case: &Case, o: &mut Outcome) -> u64 {
     let s = &case.settings;
+    let (times, values) = (Times::of(&case.timestamps), Values::of(&case.values));
+    let (output, prepared) = (Output::of(&mut o.dst_values), Prepared::of(&mut o.prepared));
+    let work = Work::of(&mut o.work);
     #[cfg(port_settled_run)]
     return unsafe {
         ask!(
             harzoulin_settled_run,
-            [case.timestamps, case.values],
+            [times, values],
             [
                 case.pre,
                 case.rollup,
@@ -119,7 +128,7 @@ fn settled_run(case: &Case, o: &mut Outcome) -> u64 {
                 case.reach,
                 s.samples_scanned_per_call,
             ],
-            [o.dst_values, o.prepared, o.work],
+            [output, prepared, work],
             [o.count, o.index]
         )
     };

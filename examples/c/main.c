@@ -5,7 +5,7 @@
 
 #include "harzoulin.h"
 
-enum { READINGS = 5, POINTS = 3, NONE = 0, AVG = 0, QUANTILE = 45 };
+enum { READINGS = 5, POINTS = 3 };
 
 static const int64_t timestamps[READINGS] = {60000, 120000, 180000, 300000, 360000};
 static const double values[READINGS] = {16.5, 16.75, 17.0, 18.5, 18.0};
@@ -14,17 +14,17 @@ static const double values[READINGS] = {16.5, 16.75, 17.0, 18.5, 18.0};
 static uint64_t run(uint32_t rollup, double first, int64_t step, double *figures, uint64_t *count,
                     uint64_t *index) {
     double prepared[READINGS], work[2 * READINGS];
-    return harzoulin_run(timestamps, READINGS, (const uint64_t *)values, READINGS, NONE, rollup,
-                         first, 0.0, 120000, 360000, step, 0, false, false, 0, 0, 0, 0,
-                         (uint64_t *)figures, POINTS, (uint64_t *)prepared, READINGS, work,
-                         2 * READINGS, count, index);
+    return harzoulin_run(timestamps, READINGS, (const uint64_t *)values, READINGS,
+                         HARZOULIN_STEP_NONE, rollup, first, 0.0, 120000, 360000, step, 0, false,
+                         false, 0, 0, 0, 0, (uint64_t *)figures, POINTS, (uint64_t *)prepared,
+                         READINGS, work, 2 * READINGS, count, index);
 }
 
 int main(void) {
     double averages[POINTS], medians[POINTS];
     uint64_t count, index;
-    if (run(AVG, 0.0, 120000, averages, &count, &index) != 0 ||
-        run(QUANTILE, 0.5, 120000, medians, &count, &index) != 0) {
+    if (run(HARZOULIN_ROLLUP_AVG, 0.0, 120000, averages, &count, &index) ||
+        run(HARZOULIN_ROLLUP_QUANTILE, 0.5, 120000, medians, &count, &index)) {
         return 1;
     }
     printf("minute  average  median\n");
@@ -32,6 +32,7 @@ int main(void) {
         printf("%6d  %7.3f  %6.3f\n", 2 * i + 2, averages[i], medians[i]);
     }
     printf("%" PRIu64 " readings scanned\n", count);
-    printf("a step of 0 is refused with %" PRIu64 "\n", run(AVG, 0.0, 0, averages, &count, &index));
-    return 0;
+    uint64_t refused = run(HARZOULIN_ROLLUP_AVG, 0.0, 0, averages, &count, &index);
+    printf("a step of 0 is refused with %" PRIu64 "\n", refused);
+    return refused == HARZOULIN_REFUSED_STEP ? 0 : 1;
 }

@@ -1,20 +1,75 @@
 //! The exported functions, as include/harzoulin.h declares them. compare/ takes this file in as well.
+//!
+//! A slice crosses as a pointer and a length. What it is lent as is a part of the pointer's type, so
+//! that two slices that are swapped do not compile, though in memory they are alike.
 
-// Safe to declare: the types are those of include/harzoulin.h, which examples/c is built with.
+/// Lent as the times of a series.
+pub enum Times {}
+/// Lent as the values of a series.
+pub enum Values {}
+/// Lent as the output.
+pub enum Output {}
+/// Lent as the prepared slice.
+pub enum Prepared {}
+/// Lent as the work slice.
+pub enum Work {}
+
+/// A slice as it crosses.
+pub struct Slice<P> {
+    pub pointer: P,
+    pub length: usize,
+}
+
+/// What values are held as: an `f64`, or the `u64` that is its pattern.
+pub trait Pattern {}
+impl Pattern for f64 {}
+impl Pattern for u64 {}
+
+impl Times {
+    pub fn of(slice: &[i64]) -> Slice<*const Times> {
+        Slice { length: slice.len(), pointer: slice.as_ptr().cast() }
+    }
+}
+
+impl Values {
+    pub fn of(slice: &[impl Pattern]) -> Slice<*const Values> {
+        Slice { length: slice.len(), pointer: slice.as_ptr().cast() }
+    }
+}
+
+impl Output {
+    pub fn of(slice: &mut [impl Pattern]) -> Slice<*mut Output> {
+        Slice { length: slice.len(), pointer: slice.as_mut_ptr().cast() }
+    }
+}
+
+impl Prepared {
+    pub fn of(slice: &mut [impl Pattern]) -> Slice<*mut Prepared> {
+        Slice { length: slice.len(), pointer: slice.as_mut_ptr().cast() }
+    }
+}
+
+impl Work {
+    pub fn of(slice: &mut [impl Pattern]) -> Slice<*mut Work> {
+        Slice { length: slice.len(), pointer: slice.as_mut_ptr().cast() }
+    }
+}
+
+// Safe to declare: tests/header.rs holds the parameters to the proved source and to the header.
 unsafe extern "C" {
     pub fn harzoulin_prepare(
-        timestamps: *const i64,
+        timestamps: *const Times,
         timestamps_len: usize,
-        values: *const u64,
+        values: *const Values,
         values_len: usize,
         pre: u32,
-        prepared: *mut u64,
+        prepared: *mut Prepared,
         prepared_len: usize,
         index: &mut u64,
     ) -> u64;
 
     pub fn harzoulin_settle(
-        timestamps: *const i64,
+        timestamps: *const Times,
         timestamps_len: usize,
         start: i64,
         end: i64,
@@ -33,9 +88,9 @@ unsafe extern "C" {
     ) -> u64;
 
     pub fn harzoulin_run(
-        timestamps: *const i64,
+        timestamps: *const Times,
         timestamps_len: usize,
-        values: *const u64,
+        values: *const Values,
         values_len: usize,
         pre: u32,
         rollup: u32,
@@ -51,20 +106,20 @@ unsafe extern "C" {
         min_staleness_interval: i64,
         max_points_per_series: i64,
         samples_scanned_per_call: u64,
-        dst_values: *mut u64,
+        dst_values: *mut Output,
         dst_values_len: usize,
-        prepared: *mut u64,
+        prepared: *mut Prepared,
         prepared_len: usize,
-        work: *mut f64,
+        work: *mut Work,
         work_len: usize,
         count: &mut u64,
         index: &mut u64,
     ) -> u64;
 
     pub fn harzoulin_settled_run(
-        timestamps: *const i64,
+        timestamps: *const Times,
         timestamps_len: usize,
-        values: *const u64,
+        values: *const Values,
         values_len: usize,
         pre: u32,
         rollup: u32,
@@ -76,11 +131,11 @@ unsafe extern "C" {
         window: i64,
         reach: i64,
         samples_scanned_per_call: u64,
-        dst_values: *mut u64,
+        dst_values: *mut Output,
         dst_values_len: usize,
-        prepared: *mut u64,
+        prepared: *mut Prepared,
         prepared_len: usize,
-        work: *mut f64,
+        work: *mut Work,
         work_len: usize,
         count: &mut u64,
         index: &mut u64,
@@ -88,19 +143,19 @@ unsafe extern "C" {
 }
 
 /// Calls an exported function: each has the slices that it reads, then numbers, then the slices and
-/// the single places that it writes. Values go as `f64` or as their patterns.
+/// the single places that it writes.
 macro_rules! ask {
     (
         $function:ident,
-        [$($read:expr),*],
+        [$($read:ident),*],
         [$($number:expr),* $(,)?],
-        [$($written:expr),*],
+        [$($written:ident),*],
         [$($place:expr),*]
     ) => {
         $function(
-            $($read.as_ptr().cast(), $read.len(),)*
+            $($read.pointer, $read.length,)*
             $($number,)*
-            $($written.as_mut_ptr().cast(), $written.len(),)*
+            $($written.pointer, $written.length,)*
             $(&mut $place),*
         )
     };

@@ -21,15 +21,22 @@ pub struct Slices<'a> {
     pub work: &'a mut [f64],
 }
 
+impl Slices<'_> {
+    fn crossing(&mut self) -> (Slice<*mut Output>, Slice<*mut Prepared>, Slice<*mut Work>) {
+        (Output::of(self.output), Prepared::of(self.prepared), Work::of(self.work))
+    }
+}
+
 /// The window, the reach and the number of output times of a run on these times.
 pub fn settle(timestamps: &[i64], settings: &Settings) -> Result<Settled, Refusal> {
     let s = settings;
     let (mut window, mut reach, mut points, mut index) = (0, 0, 0, 0);
+    let times = Times::of(timestamps);
     // Safe: the one slice is only read, and the places are variables.
     let number = unsafe {
         ask!(
             harzoulin_settle,
-            [timestamps],
+            [times],
             [
                 s.start,
                 s.end,
@@ -58,9 +65,11 @@ pub fn prepare(
     prepared: &mut [f64],
 ) -> Result<(), Refusal> {
     let mut index = 0;
+    let (times, values) = (Times::of(timestamps), Values::of(values));
+    let prepared = Prepared::of(prepared);
     // Safe: `prepared` is borrowed for writing, so it overlaps neither of the others.
     let number =
-        unsafe { ask!(harzoulin_prepare, [timestamps, values], [pre as u32], [prepared], [index]) };
+        unsafe { ask!(harzoulin_prepare, [times, values], [pre as u32], [prepared], [index]) };
     accepted(number, index)
 }
 
@@ -73,15 +82,15 @@ pub fn run(
     settings: &Settings,
     slices: &mut Slices,
 ) -> Result<u64, Refusal> {
-    let s = settings;
-    let (first, second) = rollup.parameters();
+    let (s, (first, second)) = (settings, rollup.parameters());
     let (mut count, mut index) = (0, 0);
-    // Safe: the three lent slices are borrowed for writing, so none overlaps another slice of the
-    // call.
+    let (times, values) = (Times::of(timestamps), Values::of(values));
+    let (output, prepared, work) = slices.crossing();
+    // Safe: the lent slices are borrowed for writing, so none overlaps another of the call.
     let number = unsafe {
         ask!(
             harzoulin_run,
-            [timestamps, values],
+            [times, values],
             [
                 pre as u32,
                 rollup.number(),
@@ -98,12 +107,11 @@ pub fn run(
                 s.max_points_per_series,
                 s.samples_scanned_per_call,
             ],
-            [slices.output, slices.prepared, slices.work],
+            [output, prepared, work],
             [count, index]
         )
     };
-    accepted(number, index)?;
-    Ok(count)
+    accepted(number, index).map(|()| count)
 }
 
 /// As [`run`], with window and reach given.
@@ -115,14 +123,15 @@ pub fn settled_run(
     settings: &SettledSettings,
     slices: &mut Slices,
 ) -> Result<u64, Refusal> {
-    let s = settings;
-    let (first, second) = rollup.parameters();
+    let (s, (first, second)) = (settings, rollup.parameters());
     let (mut count, mut index) = (0, 0);
+    let (times, values) = (Times::of(timestamps), Values::of(values));
+    let (output, prepared, work) = slices.crossing();
     // Safe: as for `run`.
     let number = unsafe {
         ask!(
             harzoulin_settled_run,
-            [timestamps, values],
+            [times, values],
             [
                 pre as u32,
                 rollup.number(),
@@ -135,15 +144,17 @@ pub fn settled_run(
                 s.reach,
                 s.samples_scanned_per_call,
             ],
-            [slices.output, slices.prepared, slices.work],
+            [output, prepared, work],
             [count, index]
         )
     };
-    accepted(number, index)?;
-    Ok(count)
+    accepted(number, index).map(|()| count)
 }
 
 /// Nothing for number 0, else the refusal.
 fn accepted(number: u64, index: u64) -> Result<(), Refusal> {
-    if number == 0 { Ok(()) } else { Err(Refusal::new(number, index)) }
+    match number {
+        0 => Ok(()),
+        _ => Err(Refusal::of(number, index).expect("the core refuses by the numbers of its table")),
+    }
 }

@@ -22,6 +22,7 @@ pub mod lent;
 mod refusal;
 mod rollup;
 mod settings;
+mod shared;
 mod step;
 mod workspace;
 

@@ -40,10 +40,10 @@ pub enum Refusal {
 }
 
 impl Refusal {
-    /// The refusal of a number and an index that the core gave.
-    pub(crate) fn new(number: u64, index: u64) -> Refusal {
+    /// The refusal of a number and an index that an exported function gave, if there is one.
+    pub fn of(number: u64, index: u64) -> Option<Refusal> {
         let index = index as usize;
-        match number {
+        Some(match number {
             1 => Refusal::Lengths,
             2 => Refusal::Readings,
             3 => Refusal::Time(index),
@@ -59,8 +59,8 @@ impl Refusal {
             13 => Refusal::Prepared,
             14 => Refusal::Work,
             28 => Refusal::Choice,
-            _ => unreachable!("the core refuses by the numbers of its table"),
-        }
+            _ => return None,
+        })
     }
 
     /// Its number in the table.

@@ -1,6 +1,6 @@
 //! A workspace keeps its memory from call to call, and nothing else.
 
-use harzoulin::{Rollup, Settings, Step, Workspace};
+use harzoulin::{MOST, Rollup, Settings, Settled, Step, Workspace};
 
 /// A series of some readings, one a minute, and a grid of as many output times.
 fn series(readings: i64) -> (Vec<i64>, Vec<f64>, Settings) {
@@ -41,6 +41,40 @@ fn a_used_workspace_answers_as_a_new_one() {
             assert_eq!(used, new);
         }
     }
+}
+
+/// Refused calls leave the memory as it was, at any row.
+#[test]
+fn a_refusal_needs_no_memory() {
+    let mut workspace = Workspace::new();
+    let (times, values, good) = series(1000);
+    let many = vec![0; MOST + 1];
+    let mut refused = |times: &[i64], values: &[f64], settings: Settings| {
+        let run = workspace.run(times, values, Step::None, Rollup::Avg, &settings);
+        let number = run.unwrap_err().number();
+        let settled = Settled { window: 1, reach: 1, points: 0 };
+        let settings = settings.settled(settled);
+        let run = workspace.settled_run(times, values, Step::None, Rollup::Avg, &settings);
+        assert_eq!(run.unwrap_err().number(), number);
+        assert!(number > 5 || workspace.prepare(times, values, Step::None).is_err());
+        assert_eq!(workspace.bytes(), 0, "{number}");
+        number
+    };
+    assert_eq!(refused(&times, &values[1..], good), 1);
+    assert_eq!(refused(&many, &vec![0.0; MOST + 1], good), 2);
+    assert_eq!(refused(&times, &vec![f64::NAN; 1000], good), 5);
+    assert_eq!(refused(&times, &values, Settings { step: 0, ..good }), 6);
+    assert_eq!(refused(&times, &values, Settings { start: i64::MIN, end: i64::MAX, ..good }), 7);
+    assert_eq!(refused(&times, &values, Settings { end: MOST as i64, step: 1, ..good }), 11);
+}
+
+/// An accepted run needs the output, the prepared values and twice as much to work in.
+#[test]
+fn memory_of_a_run() {
+    let mut workspace = Workspace::new();
+    let (times, values, settings) = series(1000);
+    workspace.run(&times, &values, Step::None, Rollup::Avg, &settings).unwrap();
+    assert_eq!(workspace.bytes(), 8 * (1000 + 3 * 1000));
 }
 
 /// A workspace may be moved to another thread.
