@@ -61,7 +61,7 @@ pub fn rollup_delta(rfa: RollupFuncArg, values: &[u64]) -> f64
 }
 
 // The last value less the first.
-pub fn rollup_delta_prometheus(values: &[u64]) -> f64
+pub fn rollup_delta_prometheus(rfa: RollupFuncArg, values: &[u64]) -> f64
     ensures { λ r. ⌜ r ≡ deltaPrometheusOf (floats (now (values .entry))) ⌝ }
 {
     if values.len() < 2 {

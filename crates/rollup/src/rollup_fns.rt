@@ -38,7 +38,7 @@ fn total(values: &[u64]) -> f64
     sum
 }
 
-pub fn rollup_avg(values: &[u64]) -> f64
+pub fn rollup_avg(rfa: RollupFuncArg, values: &[u64]) -> f64
     ensures { λ r. ⌜ r ≡ avgOf (floats (now (values .entry))) ⌝ }
 {
     if values.len() == 0 {
@@ -71,7 +71,7 @@ pub fn extreme(down: bool, m: f64, values: &[u64]) -> f64
 }
 
 // The least value, the first of equals.
-pub fn rollup_min(values: &[u64]) -> f64
+pub fn rollup_min(rfa: RollupFuncArg, values: &[u64]) -> f64
     ensures { λ r. ⌜ r ≡ minOf (floats (now (values .entry))) ⌝ }
 {
     if values.len() == 0 {
@@ -81,7 +81,7 @@ pub fn rollup_min(values: &[u64]) -> f64
 }
 
 // The greatest value, the last of equals.
-pub fn rollup_max(values: &[u64]) -> f64
+pub fn rollup_max(rfa: RollupFuncArg, values: &[u64]) -> f64
     ensures { λ r. ⌜ r ≡ maxOf (floats (now (values .entry))) ⌝ }
 {
     if values.len() == 0 {
@@ -100,14 +100,14 @@ pub fn rollup_max(values: &[u64]) -> f64
 }
 
 // The median absolute deviation.
-pub fn rollup_mad(values: &[u64], work: &mut [f64]) -> f64
+pub fn rollup_mad(rfa: RollupFuncArg, values: &[u64], work: &mut [f64]) -> f64
     requires { ⌜ 2 * length (now values) ≤ length (now work) ⌝ }
     ensures { λ r. ⌜ r ≡ madOf (floats (now (values .entry))) ⌝ }
 {
     math::quantile::mad(values, work)
 }
 
-pub fn rollup_median(values: &[u64], work: &mut [f64]) -> f64
+pub fn rollup_median(rfa: RollupFuncArg, values: &[u64], work: &mut [f64]) -> f64
     requires { ⌜ 2 * length (now values) ≤ length (now work) ⌝ }
     ensures { λ r. ⌜ r ≡ medianOf (floats (now (values .entry))) ⌝ }
 {
@@ -144,7 +144,7 @@ fn extreme_time(down: bool, values: &[u64], timestamps: &[i64]) -> f64
 }
 
 // The last time of the minimum, in seconds.
-pub fn rollup_tmin(values: &[u64], timestamps: &[i64]) -> f64
+pub fn rollup_tmin(rfa: RollupFuncArg, values: &[u64], timestamps: &[i64]) -> f64
     requires { ⌜ length (now timestamps) ≡ length (now values) ⌝ }
     ensures { λ r. ⌜ r ≡ tminOf (floats (now (values .entry))) (now (timestamps .entry)) ⌝ }
 {
@@ -152,7 +152,7 @@ pub fn rollup_tmin(values: &[u64], timestamps: &[i64]) -> f64
 }
 
 // The last time of the maximum, in seconds.
-pub fn rollup_tmax(values: &[u64], timestamps: &[i64]) -> f64
+pub fn rollup_tmax(rfa: RollupFuncArg, values: &[u64], timestamps: &[i64]) -> f64
     requires { ⌜ length (now timestamps) ≡ length (now values) ⌝ }
     ensures { λ r. ⌜ r ≡ tmaxOf (floats (now (values .entry))) (now (timestamps .entry)) ⌝ }
 {
@@ -160,7 +160,7 @@ pub fn rollup_tmax(values: &[u64], timestamps: &[i64]) -> f64
 }
 
 // The first time, in seconds.
-pub fn rollup_tfirst(timestamps: &[i64]) -> f64
+pub fn rollup_tfirst(rfa: RollupFuncArg, timestamps: &[i64]) -> f64
     ensures { λ r. ⌜ r ≡ tfirstOf (now (timestamps .entry)) ⌝ }
 {
     if timestamps.len() == 0 {
@@ -170,7 +170,7 @@ pub fn rollup_tfirst(timestamps: &[i64]) -> f64
 }
 
 // The last time, in seconds.
-pub fn rollup_tlast(timestamps: &[i64]) -> f64
+pub fn rollup_tlast(rfa: RollupFuncArg, timestamps: &[i64]) -> f64
     ensures { λ r. ⌜ r ≡ tlastOf (now (timestamps .entry)) ⌝ }
 {
     if timestamps.len() == 0 {
@@ -220,7 +220,7 @@ pub fn rollup_tlast_change(rfa: RollupFuncArg, values: &[u64], timestamps: &[i64
     ieee::seconds(first_time(timestamps))
 }
 
-pub fn rollup_sum(values: &[u64]) -> f64
+pub fn rollup_sum(rfa: RollupFuncArg, values: &[u64]) -> f64
     ensures { λ r. ⌜ r ≡ sumOf (floats (now (values .entry))) ⌝ }
 {
     if values.len() == 0 {
@@ -239,7 +239,7 @@ pub fn rollup_rate_over_sum(rfa: RollupFuncArg, values: &[u64]) -> f64
     total(values) / ieee::seconds(rfa.window)
 }
 
-pub fn rollup_sum2(values: &[u64]) -> f64
+pub fn rollup_sum2(rfa: RollupFuncArg, values: &[u64]) -> f64
     ensures { λ r. ⌜ r ≡ sum2Of (floats (now (values .entry))) ⌝ }
 {
     if values.len() == 0 {
@@ -256,7 +256,7 @@ pub fn rollup_sum2(values: &[u64]) -> f64
 }
 
 // The greatest value less the least.
-pub fn rollup_range(values: &[u64]) -> f64
+pub fn rollup_range(rfa: RollupFuncArg, values: &[u64]) -> f64
     ensures { λ r. ⌜ r ≡ rangeOf (floats (now (values .entry))) ⌝ }
 {
     if values.len() == 0 {
@@ -279,7 +279,7 @@ pub fn rollup_range(values: &[u64]) -> f64
 }
 
 // 1.0 for an empty window.
-pub fn rollup_absent(values: &[u64]) -> f64
+pub fn rollup_absent(rfa: RollupFuncArg, values: &[u64]) -> f64
     ensures { λ r. ⌜ r ≡ absentOf (floats (now (values .entry))) ⌝ }
 {
     if values.len() == 0 {
@@ -289,7 +289,7 @@ pub fn rollup_absent(values: &[u64]) -> f64
 }
 
 // 1.0 for a window that is not empty.
-pub fn rollup_present(values: &[u64]) -> f64
+pub fn rollup_present(rfa: RollupFuncArg, values: &[u64]) -> f64
     ensures { λ r. ⌜ r ≡ presentOf (floats (now (values .entry))) ⌝ }
 {
     if values.len() == 0 {
@@ -298,7 +298,7 @@ pub fn rollup_present(values: &[u64]) -> f64
     1.0
 }
 
-pub fn rollup_count(values: &[u64]) -> f64
+pub fn rollup_count(rfa: RollupFuncArg, values: &[u64]) -> f64
     ensures { λ r. ⌜ r ≡ countOf (floats (now (values .entry))) ⌝ }
 {
     if values.len() == 0 {
@@ -307,13 +307,13 @@ pub fn rollup_count(values: &[u64]) -> f64
     ieee::of_count(values.len())
 }
 
-pub fn rollup_stddev(values: &[u64]) -> f64
+pub fn rollup_stddev(rfa: RollupFuncArg, values: &[u64]) -> f64
     ensures { λ r. ⌜ r ≡ stddevOf (floats (now (values .entry))) ⌝ }
 {
     math::deviation::stddev(values)
 }
 
-pub fn rollup_stdvar(values: &[u64]) -> f64
+pub fn rollup_stdvar(rfa: RollupFuncArg, values: &[u64]) -> f64
     ensures { λ r. ⌜ r ≡ stdvarOf (floats (now (values .entry))) ⌝ }
 {
     math::deviation::stdvar(values)
@@ -422,7 +422,7 @@ fn count_changes(prev_value: f64, values: &[u64]) -> usize
 }
 
 // The changes inside the window.
-pub fn rollup_changes_prometheus(values: &[u64]) -> f64
+pub fn rollup_changes_prometheus(rfa: RollupFuncArg, values: &[u64]) -> f64
     ensures { λ r. ⌜ r ≡ changesPrometheusOf (floats (now (values .entry))) ⌝ }
 {
     if values.len() == 0 {
@@ -582,18 +582,21 @@ pub fn rollup_zscore_over_time(rfa: RollupFuncArg, values: &[u64], timestamps: &
     if lag > scrape_interval {
         return nan();
     }
-    zscore_of(last(values) - rollup_avg(values), rollup_stddev(values))
+    zscore_of(
+        last(values) - rollup_avg(rfa, values),
+        rollup_stddev(rfa, values),
+    )
 }
 
 // The first value.
-pub fn rollup_first(values: &[u64]) -> f64
+pub fn rollup_first(rfa: RollupFuncArg, values: &[u64]) -> f64
     ensures { λ r. ⌜ r ≡ firstOf (floats (now (values .entry))) ⌝ }
 {
     first(values)
 }
 
 // The last value.
-pub fn rollup_default(values: &[u64]) -> f64
+pub fn rollup_default(rfa: RollupFuncArg, values: &[u64]) -> f64
     ensures { λ r. ⌜ r ≡ lastOf (floats (now (values .entry))) ⌝ }
 {
     last(values)
@@ -619,7 +622,7 @@ fn count_distinct(sorted: &[f64]) -> usize
 }
 
 // How many different values the window has.
-pub fn rollup_distinct(values: &[u64], work: &mut [f64]) -> f64
+pub fn rollup_distinct(rfa: RollupFuncArg, values: &[u64], work: &mut [f64]) -> f64
     requires { ⌜ 2 * length (now values) ≤ length (now work) ⌝ }
     ensures { λ r. ⌜ r ≡ distinctOf (floats (now (values .entry))) ⌝ }
 {
