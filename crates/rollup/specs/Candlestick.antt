@@ -26,14 +26,14 @@ openOf r xs ts = cond (isNan (firstCandle r)) (firstOf (candlestick (r .«curr_t
 unfoldable pub closeOf : RollupFuncArg → List Float → List ℤ → Float
 closeOf r xs ts = lastOr (firstCandle r) (candlestick (r .«curr_timestamp») ts xs)
 
--- replaced only by a greater value, by a lesser one
+-- the furthest of those values that way, from the predecessor or else from the first of them, replaced only by one beyond it
 unfoldable pub extremeCandle : Bool → RollupFuncArg → List Float → List ℤ → Float
 extremeCandle down r xs ts = seeded (foldFrom (further down)) (firstCandle r) (candlestick (r .«curr_timestamp») ts xs)
 
--- the furthest up
+-- the greatest
 abbrev pub highOf : RollupFuncArg → List Float → List ℤ → Float
 highOf r xs ts = extremeCandle false r xs ts
 
--- the furthest down
+-- the least
 abbrev pub lowOf : RollupFuncArg → List Float → List ℤ → Float
 lowOf r xs ts = extremeCandle true r xs ts

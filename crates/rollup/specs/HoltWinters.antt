@@ -6,11 +6,11 @@ use lib.ListN.{drop}
 use lib.Ieee.{Float, nan, binary64, add, sub, mul, le, isNan}
 use Rattle.rollup.specs.Window.{isEmpty, firstOf, foldFrom, zeroF, oneF}
 
--- a factor stands between 0.0 and 1.0; NaN is not told from one that does
+-- whether a factor does not stand between 0.0 and 1.0; a NaN is taken to stand there
 unfoldable pub outOfRange : Float → Bool
 outOfRange f = le f zeroF || le oneF f
 
--- the level s and the trend b after one more value v
+-- the level after one more value v, from the level and the trend before it
 abbrev pub level : Float → Float × Float → Float → Float
 level sf s v = add binary64 (mul binary64 sf v) (mul binary64 (sub binary64 oneF sf) (add binary64 (s .0) (s .1)))
 

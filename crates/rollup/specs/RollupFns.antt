@@ -45,11 +45,11 @@ sum2Of xs = cond (isEmpty xs) nan (foldFrom addSquare zeroF xs)
 unfoldable pub minOf : List Float → Float
 minOf xs = cond (isEmpty xs) nan (foldFrom (further true) (firstOf xs) xs)
 
--- the maximum is the last of equals
+-- the greater of two, v where they are equal
 abbrev pub noLesser : Float → Float → Float
 noLesser m v = cond (lt v m) m v
 
--- from the first value on
+-- the maximum is the last of equals
 unfoldable pub maxOf : List Float → Float
 maxOf xs = cond (isEmpty xs) nan (foldFrom noLesser (firstOf xs) (drop 1 xs))
 
@@ -65,15 +65,15 @@ atLeast down m v = cond down (le v m) (le m v)
 abbrev pub latest : Bool → Float × ℤ → Float × ℤ → Float × ℤ
 latest down s x = cond (atLeast down (s .0) (x .0)) x s
 
--- the last time of the minimum, and of the maximum, in seconds
+-- the last time of the furthest value that way, in seconds
 unfoldable pub extremeTime : Bool → List Float → List ℤ → Float
 extremeTime down xs ts = cond (isEmpty xs) nan (secondsF (foldFrom (latest down) (firstOf xs, firstOr (pos 0) ts) (readings xs ts) .1))
 
--- of the minimum
+-- the last time of the minimum
 abbrev pub tminOf : List Float → List ℤ → Float
 tminOf xs ts = extremeTime true xs ts
 
--- of the maximum
+-- the last time of the maximum
 abbrev pub tmaxOf : List Float → List ℤ → Float
 tmaxOf xs ts = extremeTime false xs ts
 
@@ -130,11 +130,11 @@ scrapeIntervalOf r ts = div binary64 (lifetimeOf r ts) (countF (cond (isNan (r .
 abbrev pub belowTolerance : Float → Float → Bool
 belowTolerance v p = lt (absOf (sub binary64 v p)) (mul binary64 (ofBits binary64 0x3D719799812DEA11) (absOf v))
 
--- the compared value and the count so far: a value that differs counts, unless by a tolerated step, which leaves the compared value unmoved
+-- whether the step from p to v counts: the two differ, and by no tolerated step
 abbrev pub isChange : Float → Float → Bool
 isChange p v = ne v p && not (belowTolerance v p)
 
--- the compared value and the count, after one more value
+-- the compared value and the count, after one more value: one that counts is compared with from then on, any other leaves both unmoved
 abbrev pub change : Float × ℕ → Float → Float × ℕ
 change s v = cond (isChange (s .0) v) (v, s .1 + 1) s
 
@@ -194,11 +194,11 @@ ascentOverTimeOf p xs = slideOf false p xs
 abbrev pub descentOverTimeOf : Float → List Float → Float
 descentOverTimeOf p xs = slideOf true p xs
 
--- how far the last value lies from the average, in standard deviations; NaN where the last reading is older than the average interval
+-- d in units of the deviation, 0.0 where d is 0.0
 unfoldable pub zscoreFrom : Float → Float → Float
 zscoreFrom d dev = cond (eq d zeroF) zeroF (div binary64 d dev)
 
--- the score of the last value
+-- how far the last value lies from the average, in standard deviations; NaN where the last reading is older than the average interval
 unfoldable pub zscoreOverTimeOf : RollupFuncArg → List Float → List ℤ → Float
 zscoreOverTimeOf r xs ts =
     cond (isNan (scrapeIntervalOf r ts) || isNan (lagOf r ts) || lt (scrapeIntervalOf r ts) (lagOf r ts)) nan

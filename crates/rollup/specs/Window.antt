@@ -34,11 +34,11 @@ unfoldable pub lastOr : {A : Type 0} → A → List A → A
 lastOr d [] = d
 lastOr d (x ∷ xs) = lastOr x xs
 
--- the first and the last value of a window, NaN for an empty one
+-- the first value of a window, NaN for an empty one
 abbrev pub firstOf : List Float → Float
 firstOf xs = firstOr nan xs
 
--- the last value
+-- the last value, NaN for an empty window
 abbrev pub lastOf : List Float → Float
 lastOf xs = lastOr nan xs
 
@@ -47,13 +47,13 @@ unfoldable pub foldFrom : {A S : Type 0} → (S → A → S) → S → List A �
 foldFrom step s [] = s
 foldFrom step s (x ∷ xs) = foldFrom step (step s x) xs
 
--- how many items stand up to the last one that passes, that one included: 0 where none passes
+-- the count with one more item in front: it counts if it passes, or if one behind it does
 abbrev pub counted : Bool → ℕ → ℕ
 counted true n = suc n
 counted false zero = zero
 counted false (suc n) = suc (suc n)
 
--- by going through the items
+-- how many items stand up to the last one that passes, that one included: 0 where none passes
 unfoldable pub upToLast : {A : Type 0} → (A → Bool) → List A → ℕ
 upToLast passes [] = 0
 upToLast passes (x ∷ xs) = counted (passes x) (upToLast passes xs)
@@ -78,7 +78,7 @@ zeroF = ofBits binary64 0
 abbrev pub oneF : Float
 oneF = ofBits binary64 0x3FF0000000000000
 
--- a number of items, and milliseconds as seconds
+-- a number of items as a float
 abbrev pub countF : ℕ → Float
 countF n = ofInt binary64 (pos n)
 

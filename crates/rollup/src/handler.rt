@@ -50,11 +50,12 @@ use crate::rollup_fns::rollup_tmin;
 use crate::rollup_fns::rollup_zscore_over_time;
 use crate::types::RollupFuncArg;
 ghost use mathlib.Core.Path.{_≡_};
-ghost use lib.ListN.{length};
+ghost use Prim.Native.Nat.{_*_};
+ghost use lib.ListN.{drop, length};
 ghost use Rattle.rollup.specs.Window.{floats};
 ghost use Rattle.rollup.specs.Eval.{Ready, evalOf, figureOf, scannedPerCall};
 
-// The rollups of 01's list, in its order.
+// The rollups, in the order of their numbers (docs/ROLLUPS.md).
 pub enum RollupHandler {
     Avg,
     Min,
@@ -169,8 +170,8 @@ fn figure(
     }
 }
 
-// The bits of the chosen rollup's figure for a window, NaN as 0x7FF8000000000000. What it leaves in the
-// work slice is open.
+// The bits of the chosen rollup's figure for a window, NaN as 0x7FF8000000000000. For n values a rollup is
+// lent the first 2 × n entries of the work slice. What it leaves in them is open; the others stay as they are.
 pub fn eval(
     handler: RollupHandler,
     rfa: RollupFuncArg,
@@ -180,8 +181,10 @@ pub fn eval(
 ) -> u64
     requires { ⌜ Ready rfa (now values) (now timestamps) (length (now work)) ⌝ }
     ensures { λ r. ⌜ r ≡ evalOf handler rfa (now (values .entry)) (now (timestamps .entry)) ⌝ }
+    ensures { λ _. ⌜ drop (2 * length (now (values .entry))) (now (work .exit)) ≡ drop (2 * length (now (values .entry))) (now (work .entry)) ⌝ }
 {
-    ieee::bits_of(figure(handler, rfa, values, timestamps, work))
+    let m = 2 * values.len();
+    ieee::bits_of(figure(handler, rfa, values, timestamps, &mut work[..m]))
 }
 
 // How many samples a call of the rollup is taken to scan; 0 stands for all of its window.

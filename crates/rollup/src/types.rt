@@ -11,11 +11,12 @@ ghost use lib.Ieee.{binary64, isNan, ofBits};
 ghost use Rattle.rollup.specs.Window.{firstOf, firstOr, floats, lastOf, lastOr, secondsF, upToLast};
 
 pub struct RollupFuncArg {
-    // The value before the window if it lies within the reach, else NaN.
+    // The value of the last reading at or before the window's start, if that reading is later than the start
+    // less the reach and some reading is later than the start; else NaN.
     pub prev_value: f64,
-    // The time of prev_value.
+    // The time of that reading where its value is used, else the window's start less the reach.
     pub prev_timestamp: i64,
-    // The value before the window, whatever its time; NaN where there is none.
+    // The value of the last reading at or before the window's start, on neither condition; NaN where there is none.
     pub real_prev_value: f64,
     // The first value after the output time; NaN where there is none.
     pub real_next_value: f64,

@@ -15,7 +15,7 @@ use Rattle.ieee.proofs.root.Whole.{isqrt-is, twice-squared}
 use Rattle.ieee.proofs.root.Closest.{closest-is}
 
 -- squares are in the order of their roots
-root-lt : (x y : ℕ) → x * x < y * y → x < y
+pub root-lt : (x y : ℕ) → x * x < y * y → x < y
 root-lt x y h = lt-of-not-le (λ (g : y ≤ x). not-le-of-lt h (mul-le-mul g g))
 
 module _ (n : ℕ) where
@@ -45,7 +45,7 @@ module _ (n : ℕ) where
 square-sum : (a b : ℕ) → (a + b) * (a + b) ≡ a * a + 2 * (a * b) + b * b
 square-sum a b = omega (arith, add-mul a b (a + b), mul-add a a b, mul-add b a b, mul-comm a b)
 
-square-product : (a b : ℕ) → a * b * (a * b) ≡ a * a * (b * b)
+pub square-product : (a b : ℕ) → a * b * (a * b) ≡ a * a * (b * b)
 square-product a b = simp (mul-assoc, mul-left-comm)
 
 -- with P = 2 * h, the root of w * (P * P) lies within h of r * P

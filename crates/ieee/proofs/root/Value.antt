@@ -66,16 +66,26 @@ root-pattern w r (suc k) low high digits under over p l =
 
 -- ---- the definition at a positive value, which is a units
 
--- a value that fits has no digit below the unit, and is less than 2 ^ 2098 units
-pub units-of : (m : ℕ) (e : ℤ) → T (fits binary64 (fin false (suc m) e)) → (down e ≤ 2 ^ 1074) × (suc m * up e * 2 ^ 1074 / down e < 2 ^ 2098)
+-- a value that fits has up to 53 digits and none below the unit, and is less than 2 ^ 2098 units
+pub record Fitting (m : ℕ) (e : ℤ) : Type 0 where
+  pub digits : m < 2 ^ 53
+  pub lowest : down e ≤ 2 ^ 1074
+  pub highest : m * up e * 2 ^ 1074 / down e < 2 ^ 2098
+
+pub units-of : (m : ℕ) (e : ℤ) → T (fits binary64 (fin false (suc m) e)) → Fitting (suc m) e
 unfolding fits
 units-of m e f =
     let a = suc m * up e in
-    let A = eqb (suc m % 2) 1 && ltb (suc m) (2 ^ 53) in
+    let O = eqb (suc m % 2) 1 in
+    let A = O && ltb (suc m) (2 ^ 53) in
     let C = leb (down e) (2 ^ 1074) in
     let D = ltb a (2 ^ 1024 * down e) in
     let top = mul-lt-mul-of-pos-right (ltb→lt a (2 ^ 1024 * down e) (and-r (A && C) D f)) (pow-pos 1074) in
-    (leb→le (down e) (2 ^ 1074) (and-r A C (and-l (A && C) D f)), div-lt-iff-lt-mul (down-pos e) .1 (lt-of-lt-of-le top (le-of-eq (mul-right-comm (2 ^ 1024) (down e) (2 ^ 1074)))))
+    record {
+      digits = ltb→lt (suc m) (2 ^ 53) (and-r O (ltb (suc m) (2 ^ 53)) (and-l A C (and-l (A && C) D f)));
+      lowest = leb→le (down e) (2 ^ 1074) (and-r A C (and-l (A && C) D f));
+      highest = div-lt-iff-lt-mul (down-pos e) .1 (lt-of-lt-of-le top (le-of-eq (mul-right-comm (2 ^ 1024) (down e) (2 ^ 1074))));
+    }
 
 pub sqrt-of-units : (x : Float) (a : ℕ) → 0 < a → HasValue x false a (2 ^ 1074) → sqrtOf x ≡ rootOf (a * 2 ^ 1074)
 unfolding sqrtOf

@@ -37,7 +37,7 @@ under-infinity : (m : ℕ) (e : ℤ) → T (fits binary64 (fin false (suc m) e))
 unfolding toBits
 under-infinity m e f =
     let n = suc m * up e * 2 ^ 1074 / down e in
-    omega (arith, size-le n 2098 (units-of m e f .1), kept-lt 53 n)
+    omega (arith, size-le n 2098 (units-of m e f .highest), kept-lt 53 n)
 
 infinite : (x : Float) → T (fits binary64 x) → lt (ofBits binary64 0) x ≡ true → 0x7FF0_0000_0000_0000 ≤ toBits binary64 x → x ≡ sqrtOf x
 unfolding lt ofBits sqrtOf
