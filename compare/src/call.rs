@@ -38,7 +38,7 @@ pub struct Case {
     pub work: Vec<u64>,
 }
 
-/// What a call leaves: 01's number (0: accepted) and index, what it hands out, the lent slices.
+/// What a call leaves: the refusal's number (0: accepted) and index, what it hands out, the lent slices.
 #[derive(Clone, Debug)]
 pub struct Outcome {
     pub number: u64,

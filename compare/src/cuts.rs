@@ -20,7 +20,7 @@ pub const MANY: usize = 10;
 
 /// Into how many pieces the seed cuts an accepted run or settled run, or where they give something
 /// else than the whole. The pieces are called in any order, on the slices as the call before left
-/// them. A call that 01 refuses has none.
+/// them. A refused call has none.
 pub fn disagreement(call: Call, case: &Case, seed: u64) -> Result<u64, String> {
     if rows::refusal(call, case).is_some() {
         return Ok(0);

@@ -1,4 +1,4 @@
-//! The outcome of a call as the Rust and 01's table have it.
+//! The outcome of a call as the Rust and docs/REFUSALS.md have it.
 
 use crate::call::{Call, Case, Outcome};
 use crate::words::all_bits;

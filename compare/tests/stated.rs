@@ -1,4 +1,4 @@
-//! The numbers that 01 states of the Rust, asked of the Rust.
+//! The numbers that were stated of the Rust before it was ported, asked of the Rust.
 
 mod helpers;
 

@@ -61,7 +61,7 @@ pub fn get_timestamps(start: i64, end: i64, step: i64, limit: usize) -> Result<V
     execution::get_timestamps(start, end, step, limit).map_err(|e| e.to_string())
 }
 
-/// The rollups by their numbers: 01's order.
+/// The rollups in the order of their numbers.
 pub const ROLLUPS: [(&str, RollupFunction); 48] = {
     use RollupFunction::*;
     [

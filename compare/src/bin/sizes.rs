@@ -1,6 +1,6 @@
 //! `sizes` calls the port with long series and grids: thirty years of a reading a minute under each
-//! rollup, as many readings and output times as 01 accepts, and one more. What is accepted is held
-//! to the Rust, what is refused to 01's number.
+//! rollup, as many readings and output times as are accepted, and one more. What is accepted is held
+//! to the Rust, what is refused to the number of docs/REFUSALS.md.
 
 use std::process::exit;
 
@@ -80,14 +80,14 @@ struct Tally {
 }
 
 impl Tally {
-    /// Makes a call, which must be accepted (0) or refused with this number, as the Rust and 01's
+    /// Makes a call, which must be accepted (0) or refused with this number, as the Rust and the
     /// table have it.
     fn call(&mut self, call: Call, case: &Case, number: u64, what: &str) {
         let ours = port::outcome(call, case);
         let theirs = oracle::outcome(call, case);
         let mut lines = ours.against(&theirs);
         if ours.number != number {
-            lines.push(format!("number: port {}, 01 {number}", ours.number));
+            lines.push(format!("number: port {}, table {number}", ours.number));
         }
         let found = match (&lines[..], number) {
             ([], 0) => "accepted, as the Rust answers".to_string(),

@@ -1,5 +1,5 @@
 //! `survey [--cases N] [--seed S]` asks the Rust alone, on N accepted runs and settled runs: whether
-//! it does what 01 writes out, where a departure applies, and whether it panics elsewhere. It needs
+//! it does what `rules` writes out, where a departure applies, and whether it panics elsewhere. It needs
 //! no port.
 
 use std::collections::BTreeMap;
@@ -44,7 +44,7 @@ fn main() {
         tally.records
     );
     println!("records to which a departure applies: {:?}", tally.departures);
-    println!("{cases} cases, {} disagreements with 01", tally.disagreements);
+    println!("{cases} cases, {} disagreements with the rules", tally.disagreements);
     exit((tally.disagreements > 0) as i32)
 }
 

@@ -1,5 +1,5 @@
 //! Calls: accepted ones with slices of exact or greater length, and such calls spoiled so that one
-//! row of 01's table, or two, or the end of a range, comes into play.
+//! row of docs/REFUSALS.md, or two, or the end of a range, comes into play.
 
 use original::exposed::Settings;
 
@@ -20,7 +20,7 @@ pub fn case(rng: &mut Rng, call: Call) -> Case {
     case
 }
 
-/// A call that 01 accepts.
+/// A call that is accepted.
 pub fn accepted(rng: &mut Rng, call: Call) -> Case {
     let n = series::length(rng);
     let (timestamps, values) = series::series(rng, n);
@@ -49,7 +49,7 @@ pub fn accepted(rng: &mut Rng, call: Call) -> Case {
     case
 }
 
-/// As many readings as 01 allows, and one more, with no slice lent.
+/// As many readings as are allowed, and one more, with no slice lent.
 pub fn longest() -> impl Iterator<Item = Case> {
     [MOST, MOST + 1].into_iter().map(|n| Case {
         timestamps: (0..n).collect(),

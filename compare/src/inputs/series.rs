@@ -1,4 +1,4 @@
-//! Series that 01 accepts: times within ±2^50 that rise, finite values.
+//! Series that are accepted: times within ±2^50 that rise, finite values.
 
 use super::floats;
 use crate::rng::Rng;

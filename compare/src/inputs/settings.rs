@@ -1,4 +1,4 @@
-//! Grids on, between and beyond the readings, with windows and caps, all accepted by 01.
+//! Grids on, between and beyond the readings, with windows and caps, all accepted.
 
 use original::exposed::Settings;
 

@@ -12,11 +12,11 @@ use crate::{judge, rows};
 pub const CASES: &str = "step, first, second (the parameters), n, n times, n values, start, end, \
     step, window, may_adjust_window, is_default_rollup, lookback_delta, min_staleness_interval, \
     max_points_per_series, samples_scanned_per_call, then the settled window, the reach, the count, \
-    a word whose bit k says that a departure of 01 was applied to rollup k, g, and for each of \
+    a word whose bit k says that a departure was applied to rollup k, g, and for each of \
     rollups 0 to 47 its g answers; where g is 0 the run is refused, with no place for an answer \
     lent, and the number and the index of the refusal stand for window and reach";
 
-/// The rows of 01's table that a run is refused by here. The others are about slices whose lengths
+/// The rows of docs/REFUSALS.md that a run is refused by here. The others are about slices whose lengths
 /// are not in the list.
 const REFUSALS: std::ops::RangeInclusive<u64> = 3..=12;
 
@@ -31,7 +31,7 @@ pub fn make(rng: &mut Rng, list: &mut List) {
         let (timestamps, values) = series::series(rng, n);
         accepted(rng, list, case % judge::STEPS.len(), &timestamps, &values, 12);
     }
-    // Windows of zeros, where all three departures of 01 come into play.
+    // Windows of zeros, where all three departures come into play.
     for _ in 0..10 {
         let n = rng.between(2, 9) as usize;
         let timestamps = series::times(rng, n);

@@ -103,7 +103,7 @@ after-first (suc k) n h = let e : suc k - 1 ≡ k = omega arith in rw (e, suc-mu
 alike-itself : (p : Plan) → Alike p p
 alike-itself p = record { times = refl; values = refl; pre = refl; handler = refl; per-call = refl; window = refl; reach = refl }
 
--- ---- demand 3
+-- ---- the claim about the whole list
 
 -- For an accepted run or settled run and any list of calls whose accepted ones have its series, choices, window and reach and, joined in order, its output times:
 -- their answers joined are its answers, and their counts add up to its count plus its samples once for each accepted one after the first.

@@ -1,4 +1,4 @@
--- Two series hand a rollup equal records at an output time exactly when they agree on what demand 3 lists: a record's fields are read off what they agree on,
+-- Two series hand a rollup equal records at an output time exactly when they agree on what `Agree` lists: a record's fields are read off what they agree on,
 -- and a value that is no NaN is told from the NaN that stands for none, as a time later than the limit is from the limit. Equal records give equal answers.
 -- Assumes nothing.
 use mathlib.Core.Path.{_≡_, refl, sym, ap, _∙_, subst}
@@ -219,7 +219,7 @@ back s w r t =
 same-bits : (a b : List Reading) (w r t w' r' t' : ℤ) → recordBits (recordAt a w r t) ≡ recordBits (recordAt b w' r' t') → recordAt a w r t ≡ recordAt b w' r' t'
 same-bits a b w r t w' r' t' e = sym (back a w r t) ∙ ap fromBits e ∙ back b w' r' t'
 
--- ---- demand 3
+-- ---- equal records and agreement
 
 -- Run and settled run hand the rollup equal records for both at t exactly when the two series agree.
 pub records-agree : (a b : List Reading) → Prepared a → Prepared b → NoNan a → NoNan b → (w r t : ℤ) → settledRow8 w r ≡ Accepted

@@ -1,4 +1,4 @@
--- Demand 3's first claim, in its words: which series it speaks of, when two records are equal, and what two series agree on.
+-- When two series hand a rollup equal records (docs/CLAIMS.md): which series are meant, when two records are equal, and what the two series agree on.
 -- Assumes nothing.
 use mathlib.Core.List.{List, [], _∷_}
 use mathlib.Core.Option.{IsSome}

@@ -1,4 +1,4 @@
--- Demand 3's last claim, in its words: a call cut into a list of calls, and what holds of the list.
+-- A call cut into a list of calls, and what holds of the list (docs/CLAIMS.md).
 -- Assumes nothing.
 use mathlib.Core.List.{List, [], _∷_, _++_}
 use mathlib.Core.Path.{_≡_}

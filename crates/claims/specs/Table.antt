@@ -1,4 +1,4 @@
--- The stated cases that docs/CLAIMS.md lists, as one table: each a list that the definitions compute, and the list that is stated. Figures are their 64 bits.
+-- The cases that the definitions were written from, as one table: each a list that the definitions compute, and the list that is stated. Figures are their 64 bits.
 -- Assumes nothing.
 use mathlib.Core.List.{List, [], _∷_, map}
 use Prim.Native.Nat.{ℕ, suc, _*_}

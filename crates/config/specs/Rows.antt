@@ -1,4 +1,4 @@
--- Where settings are turned away: rows 6 to 11 of document 01's table. Each row is one definition; a call goes through a list of rows. A settled run has a
+-- Where settings are turned away: rows 6 to 11 of docs/REFUSALS.md. Each row is one definition; a call goes through a list of rows. A settled run has a
 -- row 8 of its own, only the last part of row 9, and no row 10. Ranges include both ends.
 -- Assumes nothing.
 use mathlib.Core.Bool.{Bool, _||_, _&&_}

@@ -1,4 +1,4 @@
-// A call's settings, and rows 6 to 11 of document 01's table, which turn them away.
+// A call's settings, and rows 6 to 11 of docs/REFUSALS.md, which turn them away.
 
 use series::Checked;
 use series::Refusal;

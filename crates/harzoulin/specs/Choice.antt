@@ -1,4 +1,4 @@
--- How a rollup crosses to C: as its place in 01's list, with two parameters beside it.
+-- How a rollup crosses to C: as its number in docs/ROLLUPS.md, with two parameters beside it.
 -- Assumes nothing.
 use Prim.Native.Nat.{ℕ}
 use mathlib.Core.List.{List, [], _∷_}

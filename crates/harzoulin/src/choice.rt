@@ -1,4 +1,4 @@
-// A rollup by its number: the place in 01's list, from 0 on. The last three take parameters, the first of
+// A rollup by its number: docs/ROLLUPS.md, from 0 on. The last three take parameters, the first of
 // the two where they take one.
 
 use rollup::handler::RollupHandler;

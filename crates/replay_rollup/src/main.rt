@@ -1,6 +1,6 @@
 // Replays the list `rollup`. A case's words are the two parameters, the window record (previous value and
 // time, the values beside the window, output time, window), the number of readings, their times, their
-// values, a word that says where 01 departs from the Rust, and the answers of the 48 rollups.
+// values, a word that says where the port departs from the Rust, and the answers of the 48 rollups.
 use harzoulin::choice::Chosen;
 use libc::STDIN_FILENO;
 use replay::Case;
@@ -117,7 +117,7 @@ fn case(text: &[u8]) -> Case {
     let at = 9 * STEP + n * STEP;
     let timestamps = vectors::times(text, 9 * STEP, n);
     let values = vectors::words(text, at, n);
-    // the word after the values says for which rollups the stored answer is 01's and not the Rust's
+    // the word after the values says for which rollups the stored answer is the port's own and not the Rust's
     let stored = at + n * STEP + STEP;
     Case {
         len: stored + (ROLLUPS as usize) * STEP,

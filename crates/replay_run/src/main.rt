@@ -1,6 +1,6 @@
 // Replays the list `run`. A case's words are the preparing step, the two parameters, the number of readings,
 // their times, their values, ten settings, the settled window, the reach, the count, a word that says where
-// 01 departs from the Rust, the number of output times, and that many answers of each of the 48 rollups. Where
+// the port departs from the Rust, the number of output times, and that many answers of each of the 48 rollups. Where
 // a run is refused there are no output times, and the refusal's number and index stand for window and reach.
 // Where it is accepted, the settled run with the stored window and reach must give the same count and answers.
 use config::settings::RollupConfig;

@@ -40,7 +40,7 @@ pub record OnGrid (start step : ℤ) (k : ℕ) : Type 0 where
   pub spans : Spans start end step
   pub below : k < gridSize start end step
 
--- 01: start 0, end 10, step 1 has 11 times
+-- start 0, end 10, step 1 has 11 times
 eleven : gridSize (pos 0) (pos 10) (pos 1) ≡ 11
 unfolding gridSize
 eleven = refl

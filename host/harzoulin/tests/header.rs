@@ -31,7 +31,7 @@ fn steps() {
     assert_eq!(constants("harzoulin_step", "HARZOULIN_STEP_"), steps);
 }
 
-/// The names are those of the paper: `TlastChange` there is `tlast_change` here.
+/// The names are those of docs/ROLLUPS.md: `TlastChange` there is `tlast_change` here.
 #[test]
 fn rollups() {
     let rollups = ROLLUPS.iter().zip(0..).map(|(about, number)| (about.name.to_string(), number));
