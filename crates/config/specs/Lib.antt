@@ -3,3 +3,4 @@ pub mod Reach
 pub mod Rows
 pub mod Search
 pub mod Settle
+pub mod Course

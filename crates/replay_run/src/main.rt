@@ -4,6 +4,7 @@
 // a run is refused there are no output times, and the refusal's number and index stand for window and reach.
 // Where it is accepted, the settled run with the stored window and reach must give the same count and answers.
 use config::settings::RollupConfig;
+use config::settings::SettledConfig;
 use harzoulin::Step;
 use harzoulin::choice::Chosen;
 use libc::STDIN_FILENO;
@@ -11,7 +12,6 @@ use replay::Case;
 use replay::Tally;
 use rollup::handler::RollupHandler;
 use run::Figures;
-use run::SettledConfig;
 use series::PreFunction;
 use vectors::STEP;
 ghost use Prim.Native.Nat.{_≤_, _<_};
