@@ -1,5 +1,4 @@
 pub mod Estimate
 pub mod Reach
 pub mod Rows
-pub mod Search
 pub mod Settle

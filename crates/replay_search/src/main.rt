@@ -19,7 +19,7 @@ fn same_index(timestamps: &[i64], t: i64, hint: usize, stored: u64) -> bool {
     if let Checked::Refused(_) = times {
         return false;
     }
-    config::search::seek_first_timestamp_idx_after(timestamps, t, hint) as u64 == stored
+    times::search::seek_first_timestamp_idx_after(timestamps, t, hint) as u64 == stored
 }
 
 // Whether the estimate is the stored one.
