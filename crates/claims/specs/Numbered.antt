@@ -10,9 +10,9 @@ use lib.Ieee.{Float}
 use lib.ListN.{length, take}
 use Rattle.times.specs.Grid.{grid}
 use Rattle.series.specs.Answers.{Outcome}
+use Rattle.series.specs.Choice.{stepOf}
+use Rattle.rollup.specs.Choice.{rollupOf}
 use Rattle.run.specs.Run.{Lent}
-use Rattle.harzoulin.specs.Choice.{rollupOf}
-use Rattle.harzoulin.specs.Numbers.{stepOf}
 use Rattle.harzoulin.specs.Runs.{choiceOf, numberedRun, numberedSettledRun}
 use Rattle.harzoulin.specs.declared.runs.Choice.{Choice}
 use Rattle.harzoulin.specs.declared.runs.Choice.the-variants.{Named, Unnamed}

@@ -1,4 +1,3 @@
-pub mod After
 pub mod Bounded
 pub mod Distances
 pub mod Estimates

@@ -1,8 +1,7 @@
-// Settings and the grid of output times: what they settle to, where they are refused, and the search that the runs go by.
+// Settings and the grid of output times: what they settle to, and where they are refused.
 
 pub mod course;
 pub mod estimate;
 pub mod reach;
-pub mod search;
 pub mod settings;
 pub mod settle;

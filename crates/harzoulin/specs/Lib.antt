@@ -1,5 +1,3 @@
-pub mod Choice
-pub mod Numbers
 pub mod Exported
 pub mod Prepare
 pub mod Settle

@@ -1,13 +1,12 @@
 // `harzoulin_prepare`: `series::prepare` with its step by number.
 
-use crate::Step;
 use crate::refuse;
-use crate::step_of;
 use series::Checked;
 use series::Refusal;
+use series::Step;
 ghost use mathlib.Core.Path.{_≡_};
+ghost use Rattle.series.specs.Choice.{stepOf};
 ghost use Rattle.harzoulin.specs.Exported.{crossed, exported};
-ghost use Rattle.harzoulin.specs.Numbers.{stepOf};
 ghost use Rattle.harzoulin.specs.Prepare.{numberedPrepare};
 
 #[no_mangle]
@@ -20,7 +19,7 @@ pub extern "C" fn harzoulin_prepare(
 ) -> u64
     ensures { λ r. ⌜ exported r (now (index .exit)) tt (now (prepared .exit)) ≡ crossed (numberedPrepare (stepOf pre) (now (timestamps .entry)) (now (values .entry)) (now (prepared .entry))) tt ⌝ }
 {
-    let step = step_of(pre);
+    let step = series::step_of(pre);
     let Step::Known(known) = step else {
         return refuse(Refusal::UnknownNumber, index);
     };

@@ -1,23 +1,21 @@
 // `harzoulin_run` and `harzoulin_settled_run`: `run::run` and `run::settled_run` with step and rollup by number.
 // The count is set on acceptance only.
 
-use crate::Step;
-use crate::choice::Chosen;
-use crate::choice::rollup_of;
 use crate::refuse;
-use crate::step_of;
 use config::settings::RollupConfig;
 use config::settings::SettledConfig;
+use rollup::choice::Chosen;
 use rollup::handler::RollupHandler;
 use run::Figures;
 use series::PreFunction;
 use series::Refusal;
+use series::Step;
 ghost use mathlib.Core.Option.{Option·getD};
 ghost use mathlib.Core.Path.{_≡_};
+ghost use Rattle.series.specs.Choice.{stepOf};
+ghost use Rattle.rollup.specs.Choice.{rollupOf};
 ghost use Rattle.run.specs.Run.{figuresReply, lent};
-ghost use Rattle.harzoulin.specs.Choice.{rollupOf};
 ghost use Rattle.harzoulin.specs.Exported.{crossed, exported};
-ghost use Rattle.harzoulin.specs.Numbers.{stepOf};
 ghost use Rattle.harzoulin.specs.Runs.{choiceOf, numberedRun, numberedSettledRun, settledConfigOf};
 ghost use Rattle.harzoulin.specs.Settle.{configOf};
 
@@ -33,11 +31,11 @@ pub enum Choice {
 fn choose(pre: u32, rollup: u32, first: f64, second: f64) -> Choice
     ensures { λ r. ⌜ r ≡ choiceOf (stepOf pre) (rollupOf rollup first second) ⌝ }
 {
-    let step = step_of(pre);
+    let step = series::step_of(pre);
     let Step::Known(known) = step else {
         return Choice::Unnamed;
     };
-    let chosen = rollup_of(rollup, first, second);
+    let chosen = rollup::choice::rollup_of(rollup, first, second);
     let Chosen::Rollup(handler) = chosen else {
         return Choice::Unnamed;
     };

@@ -5,20 +5,10 @@ use replay::Case;
 use replay::Tally;
 use series::Checked;
 use series::PreFunction;
+use series::Step;
 use vectors::STEP;
 ghost use Prim.Native.Nat.{_≤_};
 ghost use lib.ListN.{length};
-
-// The step with a number; one above 4 has none, and counts as 4.
-fn step(number: u64) -> PreFunction {
-    match number {
-        0 => PreFunction::None,
-        1 => PreFunction::Resets,
-        2 => PreFunction::Delta,
-        3 => PreFunction::Deriv,
-        _ => PreFunction::Intervals,
-    }
-}
 
 // Whether prepare gives the stored values, which begin at a byte.
 fn same(
@@ -41,10 +31,14 @@ fn same(
 // The case that a text begins with.
 fn case(text: &[u8]) -> Case {
     let number = vectors::word(text, 0);
-    let n = vectors::word(text, STEP);
     if number > 4 {
         return replay::unread();
     }
+    let step = series::step_of(number as u32);
+    let Step::Known(pre) = step else {
+        return replay::unread();
+    };
+    let n = vectors::word(text, STEP);
     if n > 64 {
         return replay::unread();
     }
@@ -62,7 +56,7 @@ fn case(text: &[u8]) -> Case {
             stored,
             &timestamps[..n],
             &values[..n],
-            step(number),
+            pre,
             &mut prepared[..n],
         ),
     }

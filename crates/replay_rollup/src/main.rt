@@ -1,10 +1,10 @@
 // Replays the list `rollup`. A case's words are the two parameters, the window record (previous value and
 // time, the values beside the window, output time, window), the number of readings, their times, their
 // values, a word that says where the port departs from the Rust, and the answers of the 48 rollups.
-use harzoulin::choice::Chosen;
 use libc::STDIN_FILENO;
 use replay::Case;
 use replay::Tally;
+use rollup::choice::Chosen;
 use rollup::types::RollupFuncArg;
 use series::Checked;
 use vectors::STEP;
@@ -62,7 +62,7 @@ fn answer(text: &[u8], k: u32, rfa: RollupFuncArg, values: &[u64], timestamps: &
     requires { ⌜ Ready rfa (now values) (now timestamps) 128 ⌝ }
 {
     let mut work = [0.0; 128];
-    let chosen = harzoulin::choice::rollup_of(k, value(text, 0), value(text, 1));
+    let chosen = rollup::choice::rollup_of(k, value(text, 0), value(text, 1));
     match chosen {
         Chosen::Rollup(handler) => {
             rollup::handler::eval(handler, rfa, values, timestamps, &mut work)

@@ -5,14 +5,14 @@
 // Where it is accepted, the settled run with the stored window and reach must give the same count and answers.
 use config::settings::RollupConfig;
 use config::settings::SettledConfig;
-use harzoulin::Step;
-use harzoulin::choice::Chosen;
 use libc::STDIN_FILENO;
 use replay::Case;
 use replay::Tally;
+use rollup::choice::Chosen;
 use rollup::handler::RollupHandler;
 use run::Figures;
 use series::PreFunction;
+use series::Step;
 use vectors::STEP;
 ghost use Prim.Native.Nat.{_≤_, _<_};
 ghost use lib.ListN.{length};
@@ -169,7 +169,7 @@ fn same_rollup(
 {
     let first = ieee::value_of(vectors::word(text, STEP));
     let second = ieee::value_of(vectors::word(text, 2 * STEP));
-    let chosen = harzoulin::choice::rollup_of(number, first, second);
+    let chosen = rollup::choice::rollup_of(number, first, second);
     let Chosen::Rollup(handler) = chosen else {
         return false;
     };
@@ -216,7 +216,7 @@ fn replayed(text: &[u8], at: usize, n: usize, g: usize) -> bool
     if pre > 4 {
         return false;
     }
-    let step = harzoulin::step_of(pre as u32);
+    let step = series::step_of(pre as u32);
     let Step::Known(pre) = step else {
         return false;
     };

@@ -1,10 +1,10 @@
 // Replays the list `search`: the hinted search, the estimate, the reach of an estimate, the grid and the
 // per-call table. A case's first word says which, and the last ones are the Rust's answer.
 use config::settings::RollupConfig;
-use harzoulin::choice::Chosen;
 use libc::STDIN_FILENO;
 use replay::Case;
 use replay::Tally;
+use rollup::choice::Chosen;
 use series::Checked;
 use vectors::STEP;
 ghost use Prim.Native.Nat.{ℕ, _≤_, _<_};
@@ -19,7 +19,7 @@ fn same_index(timestamps: &[i64], t: i64, hint: usize, stored: u64) -> bool {
     if let Checked::Refused(_) = times {
         return false;
     }
-    config::search::seek_first_timestamp_idx_after(timestamps, t, hint) as u64 == stored
+    times::search::seek_first_timestamp_idx_after(timestamps, t, hint) as u64 == stored
 }
 
 // Whether the estimate is the stored one.
@@ -149,7 +149,7 @@ fn grid(text: &[u8]) -> Case {
 
 // Whether the rollup with a number has the stored per-call number.
 fn same_scanned(number: u32, stored: u64) -> bool {
-    let chosen = harzoulin::choice::rollup_of(number, 0.0, 0.0);
+    let chosen = rollup::choice::rollup_of(number, 0.0, 0.0);
     match chosen {
         Chosen::Rollup(handler) => {
             rollup::handler::rollup_samples_scanned_per_call(handler) as u64 == stored

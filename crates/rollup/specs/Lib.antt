@@ -7,3 +7,4 @@ pub mod Candlestick
 pub mod Integrate
 pub mod HoltWinters
 pub mod Eval
+pub mod Choice

@@ -2,6 +2,7 @@
 // answers one figure. Values are the 64 bits of each binary64, times are milliseconds.
 
 pub mod candlestick;
+pub mod choice;
 pub mod delta;
 pub mod deriv;
 pub mod handler;

@@ -4,3 +4,4 @@ pub mod Refusals
 pub mod Answers
 pub mod Rows
 pub mod Prepare
+pub mod Choice

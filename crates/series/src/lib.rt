@@ -1,9 +1,12 @@
 // A series of readings: where it is refused, and the steps that prepare its values.
 
+mod choice;
 mod refusal;
 mod rows;
 mod steps;
 
+pub use choice::Step;
+pub use choice::step_of;
 pub use refusal::Checked;
 pub use refusal::Refusal;
 pub use rows::check_series;

@@ -4,7 +4,8 @@ ghost use mathlib.Core.Path.{_≡_};
 ghost use Rattle.series.specs.Patterns.{floats, patterns};
 ghost use lib.ListN.{length};
 ghost use Rattle.times.specs.Milli.{timeLimit, Within};
-ghost use Rattle.series.specs.Rows.{leading, inside};
+ghost use Rattle.times.specs.Leading.{leading};
+ghost use Rattle.series.specs.Rows.{inside};
 ghost use Rattle.series.specs.Steps.{grown, lifted, resets, deltas, sloped, derivs, wholeSeconds, intervals};
 
 // What is done to a series' values before they are rolled up.

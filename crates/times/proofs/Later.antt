@@ -11,8 +11,10 @@ use lib.Seq.{getD-take}
 use lib.Signed.{leZ, ltZ}
 use lib.Dec.{leb, ltb}
 use borrow.Author.Tests.{leb-true, leb-false, ltb-true, ltb-false}
+use Rattle.times.specs.Leading.{leading}
 use Rattle.times.specs.Later.{NotFalling, Rising, firstAfter}
 use Rattle.times.specs.Readings.{filter}
+use Rattle.times.proofs.Leading.{leading-le}
 use Rattle.times.proofs.Readings.{filter-and, map-drop}
 use Rattle.times.proofs.Order.{by-test, le-trans, lt-le, lt-not-le, le-refl, after-trans}
 
@@ -48,12 +50,11 @@ not-falling-le {ts} n i (suc j) h k =
 
 pub first-le : (ts : List ℤ) (t : ℤ) → firstAfter ts t ≤ length ts
 unfolding firstAfter
-first-le [] t = zero-le
-first-le (u ∷ ts) t = by-test (leZ u t) (λ e. rw e (suc-le-suc (first-le ts t))) (λ e. rw e zero-le)
+first-le ts t = leading-le (λ u. leZ u t) ts
 
 -- the times before it are at most t
 pub first-below : (ts : List ℤ) (t : ℤ) (i : ℕ) → i < firstAfter ts t → leZ (getD ts i (pos 0)) t ≡ true
-unfolding firstAfter
+unfolding firstAfter leading
 first-below [] t i h = absurd (omega arith)
 first-below (u ∷ ts) t zero h = by-test (leZ u t) (λ e. e) (λ e. absurd (omega (arith, rw e at h)))
 first-below (u ∷ ts) t (suc i) h =
@@ -61,14 +62,14 @@ first-below (u ∷ ts) t (suc i) h =
 
 -- the time at it, if any, is after t
 pub first-at : (ts : List ℤ) (t : ℤ) → firstAfter ts t < length ts → leZ (getD ts (firstAfter ts t) (pos 0)) t ≡ false
-unfolding firstAfter
+unfolding firstAfter leading
 first-at [] t h = absurd (omega arith)
 first-at (u ∷ ts) t h =
     by-test (leZ u t) (λ e. rw e (first-at ts t (omega (arith, rw e at h)))) (λ e. rw e e)
 
 -- and no other index is so
 pub first-unique : (ts : List ℤ) (t : ℤ) (n : ℕ) → n ≤ length ts → ((i : ℕ) → i < n → leZ (getD ts i (pos 0)) t ≡ true) → (n < length ts → leZ (getD ts n (pos 0)) t ≡ false) → n ≡ firstAfter ts t
-unfolding firstAfter
+unfolding firstAfter leading
 first-unique [] t n h below after = omega arith
 first-unique (u ∷ ts) t zero h below after = rw (after (omega arith))
 first-unique (u ∷ ts) t (suc n) h below after =
@@ -80,7 +81,7 @@ first-from {ts} n t i h k =
     after-trans (getD ts (firstAfter ts t) (pos 0)) (getD ts i (pos 0)) t (not-falling-le n (firstAfter ts t) i h k) (first-at ts t (omega arith))
 
 none-after : {u : ℤ} {ts : List ℤ} (t : ℤ) → NotFalling (u ∷ ts) → leZ u t ≡ false → firstAfter ts t ≡ 0
-unfolding firstAfter
+unfolding firstAfter leading
 none-after {u} {ts = []} t n h = refl
 none-after {u} {ts = v ∷ ts} t n h = rw (after-trans u v t (n .next zero (omega arith)) h)
 
@@ -99,7 +100,7 @@ first-left n t i h e = ltb-false i _ (sym (first-test n t i h) ∙ e)
 
 -- in what is left of the times from index k on
 pub first-drop : {ts : List ℤ} → NotFalling ts → (t : ℤ) (k : ℕ) → firstAfter (drop k ts) t ≡ firstAfter ts t - k
-unfolding firstAfter
+unfolding firstAfter leading
 first-drop {ts} n t zero = omega arith
 first-drop {ts = []} n t (suc k) = omega arith
 first-drop {ts = u ∷ ts} n t (suc k) =
@@ -108,7 +109,7 @@ first-drop {ts = u ∷ ts} n t (suc k) =
 
 -- in the first k times, where it is among them
 pub first-take : (ts : List ℤ) (t : ℤ) (k : ℕ) → firstAfter ts t ≤ k → firstAfter (take k ts) t ≡ firstAfter ts t
-unfolding firstAfter
+unfolding firstAfter leading
 first-take ts t zero h = omega arith
 first-take [] t (suc k) h = refl
 first-take (u ∷ ts) t (suc k) h =
@@ -116,7 +117,7 @@ first-take (u ∷ ts) t (suc k) h =
 
 -- a later time has no lower index
 pub first-mono : (ts : List ℤ) (t u : ℤ) → leZ t u ≡ true → firstAfter ts t ≤ firstAfter ts u
-unfolding firstAfter
+unfolding firstAfter leading
 first-mono [] t u h = zero-le
 first-mono (v ∷ ts) t u h =
     by-test (leZ v t) (λ e. rw (e, le-trans v t u e h) (suc-le-suc (first-mono ts t u h))) (λ e. rw e zero-le)
@@ -139,13 +140,13 @@ module _ {A : Type 0} (time : A → ℤ) where
       rw (lt-not-le t (time s), k) (ap (λ (l : List A). s ∷ l) (all-later t s rs (not-falling-tail n) k))
 
   until : (t : ℤ) (rs : List A) → NotFalling (map time rs) → filter (λ x. leZ (time x) t) rs ≡ take (firstAfter (map time rs) t) rs
-  unfolding filter firstAfter
+  unfolding filter firstAfter leading
   until t [] n = refl
   until t (r ∷ rs) n =
       by-test (leZ (time r) t) (λ e. rw e (ap (λ (l : List A). r ∷ l) (until t rs (not-falling-tail n)))) (λ e. rw e (no-earlier t r rs n e))
 
   after : (t : ℤ) (rs : List A) → NotFalling (map time rs) → filter (λ x. ltZ t (time x)) rs ≡ drop (firstAfter (map time rs) t) rs
-  unfolding filter firstAfter
+  unfolding filter firstAfter leading
   after t [] n = refl
   after t (r ∷ rs) n =
       by-test (leZ (time r) t) (λ e. rw (lt-not-le t (time r), e) (after t rs (not-falling-tail n)))

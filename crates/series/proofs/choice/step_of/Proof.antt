@@ -1,12 +1,12 @@
--- `harzoulin::step_of` meets its contract. Each number is the step's place in the list, and 5 and more lie past its end.
+-- `series::choice::step_of` meets its contract. Each number is the step's place in the list, and 5 and more lie past its end.
 -- Assumes nothing.
 use mathlib.Core.Path.{sym}
 use native.Mathlib.Omega.{arith}
 use lib.ListN.{List·getD-eq-default}
-use Rattle.harzoulin.specs.Numbers.{steps}
-use Rattle.harzoulin.specs.declared.Step.the-variants.{Unknown}
-use Rattle.harzoulin.proofs.step_of.Statement.{statement}
-use Rattle.harzoulin.proofs.step_of.Tie as tie
+use Rattle.series.specs.Choice.{steps}
+use Rattle.series.specs.declared.choice.Step.the-variants.{Unknown}
+use Rattle.series.proofs.choice.step_of.Statement.{statement}
+use Rattle.series.proofs.choice.step_of.Tie as tie
 
 returns : tie.Need-returns
 returns c = rw (c .match .keys1)

@@ -4,8 +4,8 @@
 ghost use mathlib.Core.Path.{_≡_};
 ghost use Prim.Native.Nat.{_≤_, _<_};
 ghost use lib.ListN.{length};
 ghost use Rattle.times.specs.Later.{NotFalling, firstAfter};
-ghost use Rattle.config.specs.Search.{Tells, Between};
+ghost use Rattle.times.specs.Search.{Tells, Between};
 
 // Whether the time at i is after t, which bounds the answer from above or from below.
 fn is_after(timestamps: &[i64], t: i64, i: usize) -> bool

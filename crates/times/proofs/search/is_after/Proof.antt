@@ -6,11 +6,11 @@ use lib.ListN.{getD}
 use mir.Syntax.{w64}
 use mir.Val.{SFits}
 use mir.Facts.{toZ-ofZ}
-use Rattle.config.proofs.After.{tells}
-use Rattle.config.proofs.search.is_after.Statement.{statement}
-use Rattle.config.proofs.search.is_after.Tie as tie
-use Rattle.config.proofs.search.is_after.Reads as reads
-use Rattle.config.proofs.search.is_after.Lts as lts
+use Rattle.times.proofs.After.{tells}
+use Rattle.times.proofs.search.is_after.Statement.{statement}
+use Rattle.times.proofs.search.is_after.Tie as tie
+use Rattle.times.proofs.search.is_after.Reads as reads
+use Rattle.times.proofs.search.is_after.Lts as lts
 
 mul-result : tie.Need-mul-result
 mul-result c = search needs

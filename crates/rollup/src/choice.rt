@@ -1,9 +1,9 @@
 // A rollup by its number: docs/ROLLUPS.md, from 0 on. The last three take parameters, the first of
 // the two where they take one.
 
-use rollup::handler::RollupHandler;
+use crate::handler::RollupHandler;
 ghost use mathlib.Core.Path.{_≡_};
-ghost use Rattle.harzoulin.specs.Choice.{rollupOf};
+ghost use Rattle.rollup.specs.Choice.{rollupOf};
 
 // A rollup, or none where the number names none.
 pub enum Chosen {

@@ -6,10 +6,10 @@ use borrow.Author.Needs.{needs}
 use mir.Syntax.{w64}
 use mir.Val.{toZ}
 use lib.ListN.{length}
 use Rattle.times.specs.Later.{firstAfter}
-use Rattle.config.proofs.After.{same}
-use Rattle.config.proofs.search.binary_search.Statement.{statement}
-use Rattle.config.proofs.search.binary_search.Tie as tie
+use Rattle.times.proofs.After.{same}
+use Rattle.times.proofs.search.binary_search.Statement.{statement}
+use Rattle.times.proofs.search.binary_search.Tie as tie
 
 abbrev Inv-loop : tie.InvT-loop
 Inv-loop timestamps t lo hi low₀ high₀ low high =

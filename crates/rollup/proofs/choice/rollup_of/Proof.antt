@@ -1,13 +1,13 @@
--- `harzoulin::choice::rollup_of` meets its contract. Each number is the rollup's place in the list, and 48 and more lie past its end.
+-- `rollup::choice::rollup_of` meets its contract. Each number is the rollup's place in the list, and 48 and more lie past its end.
 -- Assumes nothing.
 use Prim.Native.Nat.{ℕ, zero, suc, _≤_}
 use mathlib.Core.Path.{_≡_, sym}
 use native.Mathlib.Omega.{arith}
 use lib.ListN.{List·getD-eq-default}
-use Rattle.harzoulin.specs.Choice.{rollups}
-use Rattle.harzoulin.specs.declared.choice.Chosen.the-variants.{None}
-use Rattle.harzoulin.proofs.choice.rollup_of.Statement.{statement}
-use Rattle.harzoulin.proofs.choice.rollup_of.Tie as tie
+use Rattle.rollup.specs.Choice.{rollups}
+use Rattle.rollup.specs.declared.choice.Chosen.the-variants.{None}
+use Rattle.rollup.proofs.choice.rollup_of.Statement.{statement}
+use Rattle.rollup.proofs.choice.rollup_of.Tie as tie
 
 -- n is none of the numbers below k, as the last arm of a match is told
 abbrev Missed : ℕ → ℕ → Type 0

@@ -1,12 +1,12 @@
--- How a rollup crosses to C: as its number in docs/ROLLUPS.md, with two parameters beside it.
+-- A rollup by its number in docs/ROLLUPS.md, with two parameters beside it.
 -- Assumes nothing.
 use Prim.Native.Nat.{ℕ}
 use mathlib.Core.List.{List, [], _∷_}
 use lib.ListN.{getD}
 use lib.Ieee.{Float}
 use Rattle.rollup.specs.declared.handler.RollupHandler.the-variants.{Avg, Min, Max, Mad, Median, Tmin, Tmax, Tfirst, Tlast, TlastChange, Sum, Sum2, RateOverSum, Range, Absent, Present, Count, Stddev, Stdvar, IncreasePure, Lifetime, Lag, ScrapeInterval, Changes, ChangesPrometheus, Increases, Resets, ModeOverTime, AscentOverTime, DescentOverTime, ZscoreOverTime, First, Default, Distinct, DerivSlow, DerivFast, Ideriv, Delta, DeltaPrometheus, Idelta, Open, Close, High, Low, Integrate, Quantile, PredictLinear, HoltWinters}
-use Rattle.harzoulin.specs.declared.choice.Chosen.{Chosen}
-use Rattle.harzoulin.specs.declared.choice.Chosen.the-variants.{Rollup, None}
+use Rattle.rollup.specs.declared.choice.Chosen.{Chosen}
+use Rattle.rollup.specs.declared.choice.Chosen.the-variants.{Rollup, None}
 
 -- the rollups in the order of their numbers, from 0 on
 abbrev pub rollups : Float → Float → List Chosen

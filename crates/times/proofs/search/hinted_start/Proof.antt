@@ -3,9 +3,9 @@
 use native.Mathlib.Omega.{arith}
 use mathlib.Core.Logic.{⊎-elim}
 use borrow.Author.Needs.{needs}
-use Rattle.config.proofs.After.{same}
-use Rattle.config.proofs.search.hinted_start.Statement.{statement}
-use Rattle.config.proofs.search.hinted_start.Tie as tie
+use Rattle.times.proofs.After.{same}
+use Rattle.times.proofs.search.hinted_start.Statement.{statement}
+use Rattle.times.proofs.search.hinted_start.Tie as tie
 
 returns : tie.Need-returns
 returns c = search needs

@@ -2,10 +2,10 @@
 -- Assumes nothing.
 use native.Mathlib.Omega.{arith}
 use borrow.Author.Needs.{needs}
 use Rattle.times.proofs.Later.{first-le}
-use Rattle.config.proofs.After.{same}
-use Rattle.config.proofs.search.hinted_end.Statement.{statement}
-use Rattle.config.proofs.search.hinted_end.Tie as tie
+use Rattle.times.proofs.After.{same}
+use Rattle.times.proofs.search.hinted_end.Statement.{statement}
+use Rattle.times.proofs.search.hinted_end.Tie as tie
 
 returns : tie.Need-returns
 returns c = omega (arith, first-le (c .before .args .timestamps .now) (c .before .args .t))

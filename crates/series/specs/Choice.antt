@@ -1,11 +1,11 @@
--- How a step crosses to C: as a number.
+-- A preparing step by its number.
 -- Assumes nothing.
 use Prim.Native.Nat.{ℕ}
 use mathlib.Core.List.{List, [], _∷_}
 use lib.ListN.{getD}
 use Rattle.series.specs.declared.steps.PreFunction.the-variants.{None, Resets, Delta, Deriv, Intervals}
-use Rattle.harzoulin.specs.declared.Step.{Step}
-use Rattle.harzoulin.specs.declared.Step.the-variants.{Known, Unknown}
+use Rattle.series.specs.declared.choice.Step.{Step}
+use Rattle.series.specs.declared.choice.Step.the-variants.{Known, Unknown}
 
 -- the steps in the order of their numbers, from 0 on
 abbrev pub steps : List Step

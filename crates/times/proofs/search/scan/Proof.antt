@@ -5,10 +5,10 @@ use native.Mathlib.Omega.{arith}
 use borrow.Author.Needs.{needs}
 use mir.Syntax.{w64}
 use mir.Val.{toZ}
 use Rattle.times.specs.Later.{firstAfter}
-use Rattle.config.proofs.After.{same}
-use Rattle.config.proofs.search.scan.Statement.{statement}
-use Rattle.config.proofs.search.scan.Tie as tie
+use Rattle.times.proofs.After.{same}
+use Rattle.times.proofs.search.scan.Statement.{statement}
+use Rattle.times.proofs.search.scan.Tie as tie
 
 abbrev Inv-loop : tie.InvT-loop
 Inv-loop timestamps t lo hi i₀ i = i ≤ firstAfter timestamps (toZ w64 t)

@@ -3,10 +3,10 @@
 use mathlib.Core.Path.{_∙_}
 use native.Mathlib.Omega.{arith}
 use borrow.Author.Needs.{needs}
 use Rattle.times.proofs.Later.{first-le}
-use Rattle.config.proofs.After.{same}
-use Rattle.config.proofs.search.seek_first_timestamp_idx_after.Statement.{statement}
-use Rattle.config.proofs.search.seek_first_timestamp_idx_after.Tie as tie
+use Rattle.times.proofs.After.{same}
+use Rattle.times.proofs.search.seek_first_timestamp_idx_after.Statement.{statement}
+use Rattle.times.proofs.search.seek_first_timestamp_idx_after.Tie as tie
 
 returns : tie.Need-returns
 returns c =
