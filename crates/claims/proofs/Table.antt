@@ -12,12 +12,14 @@ use Rattle.math.specs.Sort.{sortBy}
 use Rattle.math.specs.Values.{kept}
 use Rattle.times.specs.Readings.{filter}
 use Rattle.series.specs.Steps.{deltas, deltasFrom, derivs, derivsFrom, grown, intervalsFrom, lifted, preparedOf, resetsFrom, sloped}
-use Rattle.rollup.specs.Candlestick.{candlestick, closeOf, firstCandle}
+use Rattle.time_rollups.specs.Candlestick.{candlestick, closeOf, firstCandle}
 use Rattle.rollup.specs.Eval.{evalOf}
-use Rattle.rollup.specs.Delta.{deltaFrom, deltaOf, firstStep, startsLow}
-use Rattle.rollup.specs.HoltWinters.{holtWintersOf, outOfRange, smoothFrom}
-use Rattle.rollup.specs.RollupFns.{changesFrom, changesPrometheusOf, lagOf, maxOf, minOf}
-use Rattle.rollup.specs.Window.{firstOr, floats, foldFrom, isEmpty, lastOr, upToLast}
+use Rattle.change_rollups.specs.Delta.{deltaFrom, deltaOf, firstStep, startsLow}
+use Rattle.value_rollups.specs.HoltWinters.{holtWintersOf, outOfRange, smoothFrom}
+use Rattle.value_rollups.specs.RollupFns.{maxOf, minOf}
+use Rattle.change_rollups.specs.RollupFns.{changesFrom, changesPrometheusOf}
+use Rattle.time_rollups.specs.RollupFns.{lagOf}
+use Rattle.window.specs.Window.{firstOr, floats, foldFrom, isEmpty, lastOr, upToLast}
 use Rattle.config.specs.Estimate.{distances, distancesFrom, estimateOf}
 use Rattle.config.specs.Reach.{reachOf}
 use Rattle.run.specs.Figures.{scans}

@@ -6,9 +6,9 @@ use mathlib.Core.List.{List}
 use Prim.Native.Nat.{ℕ}
 use lib.IntN.{ℤ}
 use lib.Ieee.{Float, nan, inf, fin, binary64, isNan, toBits}
-use Rattle.rollup.specs.declared.types.RollupFuncArg.{RollupFuncArg}
+use Rattle.window.specs.declared.types.RollupFuncArg.{RollupFuncArg}
+use Rattle.window.specs.Window.{floats}
 use Rattle.rollup.specs.declared.handler.RollupHandler.{RollupHandler}
-use Rattle.rollup.specs.Window.{floats}
 use Rattle.rollup.specs.Eval.{figureOf, evalOf}
 
 -- equal records and equal windows give answers of the same bits

@@ -6,20 +6,22 @@ use Prim.Native.Nat.{ℕ, _*_, _≤_}
 use lib.ListN.{length}
 use lib.IntN.{ℤ}
 use lib.Ieee.{Float, nan, binary64, toBits}
-use Rattle.rollup.specs.declared.types.RollupFuncArg.{RollupFuncArg}
-use Rattle.rollup.specs.declared.handler.RollupHandler.{RollupHandler}
-use Rattle.rollup.specs.declared.handler.RollupHandler.the-variants.{Avg, Min, Max, Mad, Median, Tmin, Tmax, Tfirst, Tlast, TlastChange, Sum, Sum2, RateOverSum, Range, Absent, Present, Count, Stddev, Stdvar, IncreasePure, Lifetime, Lag, ScrapeInterval, Changes, ChangesPrometheus, Increases, Resets, ModeOverTime, AscentOverTime, DescentOverTime, ZscoreOverTime, First, Default, Distinct, DerivSlow, DerivFast, Ideriv, Delta, DeltaPrometheus, Idelta, Open, Close, High, Low, Integrate, Quantile, PredictLinear, HoltWinters}
-use Rattle.rollup.specs.Types.{Ranged}
-use Rattle.rollup.specs.Window.{floats, firstOf, lastOf}
-use Rattle.rollup.specs.RollupFns.{avgOf, minOf, maxOf, tminOf, tmaxOf, tfirstOf, tlastOf, tlastChangeOf, sumOf, sum2Of, rateOverSumOf, rangeOf, absentOf, presentOf, countOf, increasePureOf, lifetimeOf, lagOf, scrapeIntervalOf, changesOf, changesPrometheusOf, increasesOf, resetsOf, ascentOverTimeOf, descentOverTimeOf, zscoreOverTimeOf, distinctOf, predictLinearOf}
 use Rattle.math.specs.Quantile.{madOf, medianOf, quantileOf}
 use Rattle.math.specs.Deviation.{stddevOf, stdvarOf}
 use Rattle.math.specs.Mode.{modeOf}
-use Rattle.rollup.specs.Deriv.{derivSlowOf, derivFastOf, iderivOf}
-use Rattle.rollup.specs.Delta.{deltaOf, deltaPrometheusOf, ideltaOf}
-use Rattle.rollup.specs.Candlestick.{openOf, closeOf, highOf, lowOf}
-use Rattle.rollup.specs.Integrate.{integrateOf}
-use Rattle.rollup.specs.HoltWinters.{holtWintersOf}
+use Rattle.window.specs.declared.types.RollupFuncArg.{RollupFuncArg}
+use Rattle.window.specs.Types.{Ranged}
+use Rattle.window.specs.Window.{floats, firstOf, lastOf}
+use Rattle.value_rollups.specs.RollupFns.{avgOf, minOf, maxOf, sumOf, sum2Of, rateOverSumOf, rangeOf, absentOf, presentOf, countOf, distinctOf}
+use Rattle.value_rollups.specs.HoltWinters.{holtWintersOf}
+use Rattle.change_rollups.specs.RollupFns.{increasePureOf, changesOf, changesPrometheusOf, increasesOf, resetsOf, ascentOverTimeOf, descentOverTimeOf}
+use Rattle.change_rollups.specs.Delta.{deltaOf, deltaPrometheusOf, ideltaOf}
+use Rattle.time_rollups.specs.RollupFns.{tminOf, tmaxOf, tfirstOf, tlastOf, tlastChangeOf, lifetimeOf, lagOf, scrapeIntervalOf, zscoreOverTimeOf, predictLinearOf}
+use Rattle.time_rollups.specs.Deriv.{derivSlowOf, derivFastOf, iderivOf}
+use Rattle.time_rollups.specs.Candlestick.{openOf, closeOf, highOf, lowOf}
+use Rattle.time_rollups.specs.Integrate.{integrateOf}
+use Rattle.rollup.specs.declared.handler.RollupHandler.{RollupHandler}
+use Rattle.rollup.specs.declared.handler.RollupHandler.the-variants.{Avg, Min, Max, Mad, Median, Tmin, Tmax, Tfirst, Tlast, TlastChange, Sum, Sum2, RateOverSum, Range, Absent, Present, Count, Stddev, Stdvar, IncreasePure, Lifetime, Lag, ScrapeInterval, Changes, ChangesPrometheus, Increases, Resets, ModeOverTime, AscentOverTime, DescentOverTime, ZscoreOverTime, First, Default, Distinct, DerivSlow, DerivFast, Ideriv, Delta, DeltaPrometheus, Idelta, Open, Close, High, Low, Integrate, Quantile, PredictLinear, HoltWinters}
 
 -- what a caller shows: times in range, as many of them as values, and a work slice of twice that
 pub record Ready (r : RollupFuncArg) (values : List ℕ) (ts : List ℤ) (room : ℕ) : Type 0 where

@@ -1,10 +1,2 @@
-pub mod Window
-pub mod Types
-pub mod RollupFns
-pub mod Delta
-pub mod Deriv
-pub mod Candlestick
-pub mod Integrate
-pub mod HoltWinters
 pub mod Eval
 pub mod Choice

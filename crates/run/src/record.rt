@@ -10,7 +10,7 @@ ghost use Rattle.run.specs.Index.{Found, valueAt, valueBefore, valueIf, 
 ghost use Rattle.run.specs.Place.{Timed};
 ghost use Rattle.run.specs.Record.{readings, recordAt};
 use config::course::Course;
-use rollup::types::RollupFuncArg;
+use window::types::RollupFuncArg;
 
 // The value at k, and NaN where there is none.
 fn value_at(values: &[u64], k: usize) -> f64

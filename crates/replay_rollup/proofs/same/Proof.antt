@@ -13,7 +13,7 @@ use lib.ListN.{length, List·getD-eq-default}
 use mir.Syntax.{w64}
 use mir.Val.{SFits, ofZ, toZ}
 use mir.Facts.{toZ-ofZ}
-use Rattle.rollup.specs.Types.{AllInRange, InRange}
+use Rattle.window.specs.Types.{AllInRange, InRange}
 use Rattle.series.specs.Rows.{timesChecked}
 use Rattle.series.specs.declared.refusal.Checked.the-variants.{Accepted}
 use Rattle.series.proofs.Accepted.{accepted-times}

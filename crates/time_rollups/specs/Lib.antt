@@ -1,0 +1,4 @@
+pub mod RollupFns
+pub mod Deriv
+pub mod Candlestick
+pub mod Integrate

@@ -1,0 +1,2 @@
+pub mod RollupFns
+pub mod HoltWinters

@@ -1,0 +1,15 @@
+-- `window::types::after_seed` meets its contract: the first value is left out where it is the seed.
+-- Assumes nothing.
+use mathlib.Core.Path.{refl}
+use borrow.Author.Needs.{needs}
+use Rattle.window.proofs.types.after_seed.Statement.{statement}
+use Rattle.window.proofs.types.after_seed.Tie as tie
+
+returns : tie.Need-returns
+returns c = rw (← c .before .before .is-nan .ensures, c .before .if1 .taken) (c .rest .ensures)
+
+returns-2 : tie.Need-returns-2
+returns-2 c = rw (← c .before .is-nan .ensures, c .if1 .left) (refl)
+
+pub after-seed-spec : {M : Type 1} → statement M
+after-seed-spec = tie.close (tie.spec (λ c κs. search needs) (λ c κs. search needs) returns returns-2)

@@ -1,0 +1,21 @@
+-- What a rollup may take for granted of the times it is handed: they are so small that their differences fit an i64.
+-- Assumes nothing.
+use mathlib.Core.List.{List}
+use Prim.Native.Nat.{ℕ, _≤_, _^_}
+use lib.ListN.{getD}
+use lib.IntN.{ℤ, pos, natAbs}
+use Rattle.window.specs.declared.types.RollupFuncArg.{RollupFuncArg}
+
+-- within ±2^54: with times within ±2^50 and a window and a reach of at most 2^52, so is each time of a record
+abbrev pub InRange : ℤ → Type 0
+InRange t = natAbs t ≤ 2 ^ 54
+
+-- every time of a window is in range
+abbrev pub AllInRange : List ℤ → Type 0
+AllInRange ts = (i : ℕ) → InRange (getD ts i (pos 0))
+
+pub record Ranged (r : RollupFuncArg) (ts : List ℤ) : Type 0 where
+  pub curr : InRange (r .«curr_timestamp»)
+  pub prev : InRange (r .«prev_timestamp»)
+  pub window : InRange (r .window)
+  pub times : AllInRange ts
