@@ -11,7 +11,8 @@ use lib.Ieee.{Float, nan, binary64, fits, isNan, lt, ofBits, top}
 use lib.Ieee.Bits.{ofBits-fits, toBits-lt}
 use lib.Ieee.Fits.{add-fits, div-fits, inf-fits, sub-fits}
 use Rattle.series.specs.Patterns.{floats, patterns}
-use Rattle.series.specs.Steps.{deltas, deltasFrom, derivs, derivsFrom, grown, intervalsFrom, lifted, preparedOf, resetsFrom, secondTwice, sloped, wholeSeconds}
+use Rattle.series.specs.declared.steps.Counter.{Counter}
+use Rattle.series.specs.Steps.{counterAfter, deltas, deltasFrom, derivs, derivsFrom, intervalsFrom, lifted, preparedOf, resetsFrom, secondTwice, sloped, wholeSeconds}
 use Rattle.series.specs.declared.steps.PreFunction.{PreFunction}
 use Rattle.series.specs.declared.steps.PreFunction.the-variants.{None, Resets, Delta, Deriv, Intervals}
 use Rattle.series.specs.declared.steps.Slope.{Slope}
@@ -31,10 +32,10 @@ lifted-fits : (p w : Float) → Fits p → Fits w → Fits (lifted p w)
 unfolding lifted
 lifted-fits p w f g = by-test (lt w p) (λ e. rw e f) (λ e. rw e g)
 
-resets-fit : (c p : Float) → Fits p → (vs : List Float) → All Fits (resetsFrom c p vs)
-unfolding resetsFrom
-resets-fit c p f [] = tt
-resets-fit c p f (v ∷ vs) = let g = lifted-fits p _ f (add-fits binary64 v (grown c p v)) in (g, resets-fit _ _ g vs)
+resets-fit : (s : Counter) → Fits (s .output) → (vs : List Float) → All Fits (resetsFrom s vs)
+unfolding counterAfter resetsFrom
+resets-fit s f [] = tt
+resets-fit s f (v ∷ vs) = let g = lifted-fits (s .output) _ f (add-fits binary64 v (counterAfter s v .correction)) in (g, resets-fit (counterAfter s v) g vs)
 
 deltas-fit : (d p : Float) → Fits d → (vs : List Float) → All Fits (deltasFrom d p vs)
 unfolding deltasFrom
@@ -64,7 +65,7 @@ second-fits (x ∷ y ∷ ys) f = (f .1 .0, f .1)
 prepared-fit : (pre : PreFunction) (ts : List ℤ) (bs : List ℕ) → All Fits (preparedOf pre ts (floats bs))
 unfolding preparedOf deltas derivs
 prepared-fit None ts bs = floats-fit bs
-prepared-fit Resets ts bs = resets-fit _ _ (inf-fits binary64 _) (floats bs)
+prepared-fit Resets ts bs = resets-fit _ (inf-fits binary64 _) (floats bs)
 prepared-fit Delta ts [] = tt
 prepared-fit Delta ts (b ∷ bs) = deltas-fit (ofBits binary64 0) _ (ofBits-fits binary64 0) (floats bs)
 prepared-fit Deriv [] bs = tt

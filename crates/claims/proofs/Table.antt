@@ -11,7 +11,7 @@ use Rattle.math.specs.Quantile.{quantileOf}
 use Rattle.math.specs.Sort.{sortBy}
 use Rattle.math.specs.Values.{kept}
 use Rattle.times.specs.Readings.{filter}
-use Rattle.series.specs.Steps.{deltas, deltasFrom, derivs, derivsFrom, grown, intervalsFrom, lifted, preparedOf, resetsFrom, sloped}
+use Rattle.series.specs.Steps.{counterAfter, deltas, deltasFrom, derivs, derivsFrom, grown, intervalsFrom, lifted, preparedOf, resetsFrom, sloped}
 use Rattle.time_rollups.specs.Candlestick.{candlestick, closeOf, firstCandle}
 use Rattle.rollup.specs.Eval.{evalOf}
 use Rattle.change_rollups.specs.Delta.{deltaFrom, deltaOf, firstStep, startsLow}
@@ -27,5 +27,5 @@ use Rattle.run.specs.Record.{lastOf}
 use Rattle.claims.specs.Table.{Case, fromSecond, table}
 
 pub table-holds : map (λ (x : Case). x .computed) table ≡ map (λ (x : Case). x .stated) table
-unfolding add div eq isNan le lt mul ne neg ofBits ofInt sub toBits toSigned toUnsigned sqrtOf absOf floorOf stdvarOf modeOf quantileOf sortBy kept filter zipWith deltas deltasFrom derivs derivsFrom grown intervalsFrom lifted preparedOf resetsFrom sloped candlestick closeOf firstCandle deltaFrom deltaOf firstStep startsLow holtWintersOf outOfRange smoothFrom changesFrom changesPrometheusOf lagOf maxOf minOf firstOr floats foldFrom isEmpty lastOr upToLast distances distancesFrom estimateOf reachOf scans lastOf fromSecond evalOf
+unfolding add div eq isNan le lt mul ne neg ofBits ofInt sub toBits toSigned toUnsigned sqrtOf absOf floorOf stdvarOf modeOf quantileOf sortBy kept filter zipWith counterAfter deltas deltasFrom derivs derivsFrom grown intervalsFrom lifted preparedOf resetsFrom sloped candlestick closeOf firstCandle deltaFrom deltaOf firstStep startsLow holtWintersOf outOfRange smoothFrom changesFrom changesPrometheusOf lagOf maxOf minOf firstOr floats foldFrom isEmpty lastOr upToLast distances distancesFrom estimateOf reachOf scans lastOf fromSecond evalOf
 table-holds = refl

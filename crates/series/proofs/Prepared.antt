@@ -27,15 +27,16 @@ use Rattle.series.specs.declared.steps.PreFunction.the-variants.{None, R
 use Rattle.series.proofs.Accepted.{AcceptedSeries}
 use Rattle.series.proofs.All.{All, Finite, Number, finite-all}
 use Rattle.series.proofs.Numbers.{finite-number, sub-number, div-number, seconds-positive}
+use Rattle.series.specs.declared.steps.Counter.{Counter}
 use Rattle.series.proofs.Resets.{resets-numbers}
 use Rattle.series.proofs.Times.{within-list}
 
 -- ---- the number of values
 
-resets-length : (c p : Float) (vs : List Float) → length (resetsFrom c p vs) ≡ length vs
+resets-length : (s : Counter) (vs : List Float) → length (resetsFrom s vs) ≡ length vs
 unfolding resetsFrom
-resets-length c p [] = refl
-resets-length c p (v ∷ vs) = ap suc (resets-length _ _ vs)
+resets-length s [] = refl
+resets-length s (v ∷ vs) = ap suc (resets-length _ vs)
 
 deltas-length : (d p : Float) (vs : List Float) → length (deltasFrom d p vs) ≡ suc (length vs)
 unfolding deltasFrom
@@ -62,7 +63,7 @@ second-length (x ∷ y ∷ ys) = refl
 pub prepared-length : (pre : PreFunction) (ts : List ℤ) (vs : List Float) → length ts ≡ length vs → length (preparedOf pre ts vs) ≡ length vs
 unfolding preparedOf deltas derivs
 prepared-length None ts vs e = refl
-prepared-length Resets ts vs e = resets-length _ _ vs
+prepared-length Resets ts vs e = resets-length _ vs
 prepared-length Delta ts [] e = refl
 prepared-length Delta ts (v ∷ vs) e = deltas-length plusZero v vs
 prepared-length Deriv [] vs e = e

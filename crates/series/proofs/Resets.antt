@@ -17,7 +17,8 @@ use lib.Ieee.Scale.{finite}
 use Rattle.ieee.specs.Rank.{rank}
 use Rattle.ieee.proofs.Order.{lt-rank, le-rank}
 use Rattle.times.proofs.Order.{by-test}
-use Rattle.series.specs.Steps.{plusZero, eight, grown, lifted, resetsFrom, resets}
+use Rattle.series.specs.declared.steps.Counter.{Counter}
+use Rattle.series.specs.Steps.{plusZero, eight, counterAfter, grown, lifted, resetsFrom, resets}
 use Rattle.series.proofs.All.{All, Finite, Number}
 use Rattle.series.proofs.Numbers.{add-number, finite-add-number, sub-swap}
 
@@ -111,18 +112,17 @@ step (inf false) (fin t n d) (fin s m e) h k = step-fin s m e t n d (inf false) 
 
 -- ---- the outputs are numbers
 
-numbers-from : (c p : Float) → fine c p ≡ true → (vs : List Float) → All Finite vs → All Number (resetsFrom c p vs)
-unfolding resetsFrom
-numbers-from c p f [] a = tt
-numbers-from c p f (v ∷ vs) a =
-    let c' = grown c p v in
-    let p' = lifted p (add binary64 v c') in
-    let f' = step c p v f (a .0) in
-    (fine-output c' p' f', numbers-from c' p' f' vs (a .1))
+numbers-from : (s : Counter) → fine (s .correction) (s .output) ≡ true → (vs : List Float) → All Finite vs → All Number (resetsFrom s vs)
+unfolding counterAfter resetsFrom
+numbers-from s f [] a = tt
+numbers-from s f (v ∷ vs) a =
+    let t = counterAfter s v in
+    let g = step (s .correction) (s .output) v f (a .0) in
+    (fine-output (t .correction) (t .output) g, numbers-from t g vs (a .1))
 
 pub resets-numbers : (vs : List Float) → All Finite vs → All Number (resets vs)
 unfolding ofBits isNan
-resets-numbers vs a = numbers-from plusZero (inf true) refl vs a
+resets-numbers vs a = numbers-from _ refl vs a
 
 -- ---- they never fall
 
@@ -142,16 +142,19 @@ abbrev Climbs : Float → List Float → Type 0
 Climbs p [] = Unit
 Climbs p (x ∷ xs) = (le p x ≡ true) × Climbs x xs
 
-climbs-from : (c p : Float) → fine c p ≡ true → T (fits binary64 p) → (vs : List Float) → All Finite vs → Climbs p (resetsFrom c p vs)
-unfolding resetsFrom
-climbs-from c p f h [] a = tt
-climbs-from c p f h (v ∷ vs) a =
-    let c' = grown c p v in
-    let w = add binary64 v c' in
-    let f' = step c p v f (a .0) in
-    let number = finite-add-number binary64 v c' (a .0) (fine-correction c' (lifted p w) f') in (
-      lifted-le p w h (add-fits binary64 v c') (fine-output c p f) number,
-      climbs-from c' (lifted p w) f' (lifted-fits p w h (add-fits binary64 v c')) vs (a .1),
+climbs-from : (s : Counter) → fine (s .correction) (s .output) ≡ true → T (fits binary64 (s .output)) → (vs : List Float) → All Finite vs
+    → Climbs (s .output) (resetsFrom s vs)
+unfolding counterAfter resetsFrom
+climbs-from s f h [] a = tt
+climbs-from s f h (v ∷ vs) a =
+    let p = s .output in
+    let t = counterAfter s v in
+    let w = add binary64 v (t .correction) in
+    let w-fits = add-fits binary64 v (t .correction) in
+    let g = step (s .correction) p v f (a .0) in
+    let number = finite-add-number binary64 v (t .correction) (a .0) (fine-correction (t .correction) (t .output) g) in (
+      lifted-le p w h w-fits (fine-output (s .correction) p f) number,
+      climbs-from t g (lifted-fits p w h w-fits) vs (a .1),
     )
 
 climbs-at : (p : Float) (xs : List Float) → Climbs p xs → (d : Float) (i : ℕ) → i < length xs → le (getD (p ∷ xs) i d) (getD xs i d) ≡ true
@@ -161,4 +164,4 @@ climbs-at p (x ∷ xs) a d (suc i) h = climbs-at x xs (a .1) d i (le-of-suc-le-s
 
 pub resets-rise : (vs : List Float) → All Finite vs → (d : Float) (i : ℕ) → suc i < length (resets vs) → le (getD (resets vs) i d) (getD (resets vs) (suc i) d) ≡ true
 unfolding ofBits isNan
-resets-rise vs a d i h = climbs-at (inf true) (resets vs) (climbs-from plusZero (inf true) refl (inf-fits binary64 true) vs a) d (suc i) h
+resets-rise vs a d i h = climbs-at (inf true) (resets vs) (climbs-from _ refl (inf-fits binary64 true) vs a) d (suc i) h

@@ -7,6 +7,7 @@ use lib.Signed.{ltZ, quotZ}
 use lib.Ieee.{Float, nan, inf, binary64, ofBits, ofInt, add, sub, mul, div, neg, lt}
 use Rattle.series.specs.declared.steps.PreFunction.{PreFunction}
 use Rattle.series.specs.declared.steps.PreFunction.the-variants.{None, Resets, Delta, Deriv, Intervals}
+use Rattle.series.specs.declared.steps.Counter.{Counter}
 use Rattle.series.specs.declared.steps.Slope.{Slope}
 
 -- +0.0 and 8.0
@@ -34,17 +35,18 @@ grown c p v = pick (lt (sub binary64 v p) plusZero) (add binary64 c (fallen p v)
 unfoldable pub lifted : Float → Float → Float
 lifted p w = pick (lt w p) p w
 
--- the outputs after the corrected value p and the correction c
-unfoldable pub resetsFrom : Float → Float → List Float → List Float
-resetsFrom c p [] = []
-resetsFrom c p (v ∷ vs) =
-    let c' = grown c p v in
-    let p' = lifted p (add binary64 v c') in
-    p' ∷ resetsFrom c' p' vs
+-- the correction and the output after the raw value v
+unfoldable pub counterAfter : Counter → Float → Counter
+counterAfter s v = let c = grown (s .correction) (s .output) v in record { correction = c; output = lifted (s .output) (add binary64 v c) }
+
+-- the outputs from a state on
+unfoldable pub resetsFrom : Counter → List Float → List Float
+resetsFrom s [] = []
+resetsFrom s (v ∷ vs) = counterAfter s v .output ∷ resetsFrom (counterAfter s v) vs
 
 -- The correction starts at +0.0 and is added to the first value too, so −0.0 becomes +0.0. Before that value stands −∞: nothing lies below it.
 abbrev pub resets : List Float → List Float
-resets vs = resetsFrom plusZero (inf true) vs
+resets vs = resetsFrom (record { correction = plusZero; output = inf true }) vs
 
 -- ---- delta: `delta_values`
 

@@ -6,7 +6,7 @@ ghost use lib.ListN.{length};
 ghost use Rattle.times.specs.Milli.{timeLimit, Within};
 ghost use Rattle.times.specs.Leading.{leading};
 ghost use Rattle.series.specs.Rows.{inside};
-ghost use Rattle.series.specs.Steps.{grown, lifted, resets, deltas, sloped, derivs, wholeSeconds, intervals};
+ghost use Rattle.series.specs.Steps.{counterAfter, grown, lifted, resets, deltas, sloped, derivs, wholeSeconds, intervals};
 
 // What is done to a series' values before they are rolled up.
 pub enum PreFunction {
@@ -17,6 +17,12 @@ pub enum PreFunction {
     Intervals,
 }
 
+// What the reset step keeps from one value to the next: the correction, and the output before.
+pub struct Counter {
+    pub correction: f64,
+    pub output: f64,
+}
+
 // The last slope, and the reading that the next one is taken from.
 pub struct Slope {
     pub deriv: f64,
@@ -24,8 +30,8 @@ pub struct Slope {
     pub ts: i64,
 }
 
-// The correction c after the raw value v, where p is v's corrected predecessor.
-fn corrected(c: f64, p: f64, v: f64) -> f64
+// The correction c once the raw value v is read, where p is the output before.
+fn correction_after(c: f64, p: f64, v: f64) -> f64
     ensures { λ r. ⌜ r ≡ grown c p v ⌝ }
 {
     let d = v - p;
@@ -46,20 +52,33 @@ fn raised(p: f64, v: f64) -> f64
     if v < p { p } else { v }
 }
 
+impl Counter {
+    // The state after the raw value v, with v's output.
+    pub fn next(self, v: f64) -> Counter
+        ensures { λ r. ⌜ r ≡ counterAfter self v ⌝ }
+    {
+        let correction = correction_after(self.correction, self.output, v);
+        Counter {
+            correction,
+            output: raised(self.output, v + correction),
+        }
+    }
+}
+
 // Each value with the counter's resets added back.
 pub fn remove_counter_resets(values: &[u64], prepared: &mut [u64])
     requires { ⌜ length (now prepared) ≡ length (now values) ⌝ }
     ensures { λ _. ⌜ now (prepared .exit) ≡ patterns (resets (floats (now (values .entry)))) ⌝ }
 {
-    let mut correction = 0.0;
     // Nothing lies below -infinity, so the first value is no reset.
-    let mut prev_value = -1.0 / 0.0;
+    let mut counter = Counter {
+        correction: 0.0,
+        output: -1.0 / 0.0,
+    };
     let mut i = 0;
     while i < values.len() {
-        let v = ieee::value_of(values[i]);
-        correction = corrected(correction, prev_value, v);
-        prev_value = raised(prev_value, v + correction);
-        prepared[i] = ieee::bits_of(prev_value);
+        counter = counter.next(ieee::value_of(values[i]));
+        prepared[i] = ieee::bits_of(counter.output);
         i += 1;
     }
 }

@@ -13,11 +13,11 @@ use Rattle.series.proofs.steps.remove_counter_resets.Statement.{stateme
 use Rattle.series.proofs.steps.remove_counter_resets.Tie as tie
 
 abbrev Inv-loop : tie.InvT-loop
-Inv-loop values prepared₀ correction₀ prev-value₀ i₀ prepared correction prev-value i =
-    Written (length values) i prepared (patterns (resetsFrom correction prev-value (floats (drop i values)))) (patterns (resets (floats values)))
+Inv-loop values prepared₀ counter₀ i₀ prepared counter i =
+    Written (length values) i prepared (patterns (resetsFrom counter (floats (drop i values)))) (patterns (resets (floats values)))
 
 abbrev μ-loop : tie.MeasureT-loop
-μ-loop values prepared₀ correction₀ prev-value₀ i₀ prepared correction prev-value i = length values - i
+μ-loop values prepared₀ counter₀ i₀ prepared counter i = length values - i
 
 loop-holds : tie.Need-loop-holds Inv-loop μ-loop
 unfolding div neg ofBits
@@ -26,9 +26,9 @@ loop-holds c = record { size = c .before .before .pre; parts = refl }
 loop-again : tie.Need-loop-again Inv-loop μ-loop
 unfolding resetsFrom
 loop-again c =
-    let at-loop = c .before .before .before .before .before .before in
+    let at-loop = c .before .before .before .before .before in
     let left = first-left (at-loop .before .before .before .args .values .now) (at-loop .loop .i) 0 (omega arith) in
-    turn (omega arith) (rw (left, ← c .before .before .before .value-of .ensures, ← c .before .before .corrected .ensures, ← c .before .raised .ensures) at (at-loop .loop .inv)) (c .bits-of .ensures)
+    turn (omega arith) (rw (left, ← c .before .before .value-of .ensures, ← c .before .next .ensures) at (at-loop .loop .inv)) (c .bits-of .ensures)
 
 returns : tie.Need-returns Inv-loop μ-loop
 unfolding resetsFrom
@@ -39,4 +39,4 @@ returns c =
 pub remove-counter-resets-spec : {M : Type 1} → statement M
 remove-counter-resets-spec =
     tie.close
-    (tie.spec Inv-loop μ-loop loop-holds (λ c. search needs) (λ c. search needs) (λ c κs. search needs) (λ c κs. search needs) (λ c κs. search needs) (λ c κs. search needs) (λ c. search needs) (λ c. search needs) (λ c. search needs) (λ c. search needs) loop-again (λ c. search needs) returns)
+    (tie.spec Inv-loop μ-loop loop-holds (λ c. search needs) (λ c. search needs) (λ c κs. search needs) (λ c κs. search needs) (λ c κs. search needs) (λ c. search needs) (λ c. search needs) (λ c. search needs) (λ c. search needs) loop-again (λ c. search needs) returns)
