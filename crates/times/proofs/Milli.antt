@@ -1,4 +1,4 @@
--- The order, the sums and the differences of milliseconds, carried to ℕ by `lift`.
+-- The order, the sums and the differences of milliseconds, carried to ℕ by `lift`: `omega` reads ℕ only.
 -- Whoever has `SFits w64` of two numbers (of a parameter `x` it is `c .fits .x`) turns a test or an operation on them into a fact that `omega` reads.
 -- Assumes nothing.
 use Prim.Native.Nat.{ℕ, zero, suc, _+_, _-_, _^_, _≤_, _<_}
@@ -12,8 +12,13 @@ use lib.Signed.{ltZ, leZ}
 use mir.Syntax.{w64}
 use mir.Val.{SFits, toZ, ofZ}
 use mir.Facts.{toZ-ofZ}
-use Rattle.times.specs.Milli.{Within, lift}
+use Rattle.times.specs.Milli.{Within}
 use Rattle.times.proofs.Order.{by-test, same-leb}
+
+-- t + 2^63, which is no negative number for any `i64`
+unfoldable pub lift : ℤ → ℕ
+lift (pos n) = 2 ^ 63 + n
+lift (negsuc n) = 2 ^ 63 - suc n
 
 -- ---- the order
 

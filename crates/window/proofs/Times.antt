@@ -1,7 +1,7 @@
 -- Times in range: their sums and differences fit an i64.
 -- Assumes nothing.
 use Prim.Native.Nat.{ℕ, zero, suc, _+_, _-_, _≤_, _<_, _^_}
-use mathlib.Core.Path.{_≡_, refl, sym, subst}
+use mathlib.Core.Path.{_≡_, refl}
 use native.Mathlib.Omega.{arith}
 use mathlib.Core.Bool.{Bool, true, false, cond}
 use borrow.Author.Tests.{ltb-true}
@@ -13,7 +13,7 @@ use mir.Val.{SFits, toZ, ofZ}
 use mir.Facts.{toZ-ofZ}
 use mathlib.Core.List.{List}
 use lib.ListN.{length, getD}
-use Rattle.window.specs.Window.{firstOr, lastOr, secondsF}
+use Rattle.window.specs.Window.{firstOr, lastOr}
 use Rattle.window.specs.Types.{InRange, AllInRange, Ranged}
 use Rattle.window.specs.declared.types.RollupFuncArg.{RollupFuncArg}
 use Rattle.window.proofs.Window.{first-at, last-at}

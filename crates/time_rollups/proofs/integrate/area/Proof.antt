@@ -1,7 +1,6 @@
 -- `time_rollups::integrate::area` meets its contract: it folds `extend` over the readings.
 -- Assumes nothing.
 use borrow.Author.Needs.{needs}
-use mathlib.Core.Path.{_≡_}
 use native.Mathlib.Omega.{arith}
 use Prim.Native.Nat.{_-_, _≤_, _^_}
 use lib.ListN.{length}
@@ -12,7 +11,7 @@ use mir.Facts.{toZ-ofZ}
 use Rattle.window.specs.Window.{floats, readings, foldFrom, zeroF}
 use Rattle.window.proofs.Times.{read-back}
 use Rattle.window.proofs.Folds.{Folded, start, turn, reading, done-readings}
-use Rattle.time_rollups.specs.Integrate.{Area, areaAt, areaFrom, extend}
+use Rattle.time_rollups.specs.Integrate.{areaAt, areaFrom, extend}
 use Rattle.time_rollups.proofs.integrate.area.Statement.{statement}
 use Rattle.time_rollups.proofs.integrate.area.Tie as tie
 

@@ -1,6 +1,5 @@
 -- `time_rollups::rollup_fns::rollup_tfirst` meets its contract: the first time is given in seconds.
 -- Assumes nothing.
-use mathlib.Core.Path.{_≡_, refl}
 use borrow.Author.Needs.{needs}
 use Rattle.window.proofs.Window.{none, some}
 use Rattle.window.proofs.Times.{read-back}

@@ -1,6 +1,5 @@
 -- `time_rollups::rollup_fns::rollup_tlast` meets its contract: the last time is given in seconds.
 -- Assumes nothing.
-use mathlib.Core.Path.{_≡_, refl}
 use borrow.Author.Needs.{needs}
 use Rattle.window.proofs.Window.{none, some}
 use Rattle.window.proofs.Times.{read-back}

@@ -1,6 +1,6 @@
 -- `value_rollups::rollup_fns::rollup_rate_over_sum` meets its contract: it divides what `total` gives by the seconds of the window.
 -- Assumes nothing.
-use mathlib.Core.Path.{_≡_, refl}
+use mathlib.Core.Path.{refl}
 use borrow.Author.Needs.{needs}
 use Rattle.window.proofs.Window.{no-values, some-values}
 use Rattle.window.proofs.Times.{read-back}

@@ -1,6 +1,5 @@
 -- `window::types::count_up_to` meets its contract: the readings from i on are not below t, so those before i decide.
 -- Assumes nothing.
-use mathlib.Core.Path.{_∙_, sym}
 use borrow.Author.Needs.{needs}
 use lib.IntN.{ℤ, pos}
 use lib.Signed.{ltZ}
