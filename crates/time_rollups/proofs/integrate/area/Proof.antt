@@ -8,8 +8,8 @@ use lib.IntN.{natAbs}
 use mir.Syntax.{w64}
 use mir.Val.{toZ}
 use mir.Facts.{toZ-ofZ}
+use Rattle.times.proofs.Milli.{read-back}
 use Rattle.window.specs.Window.{floats, readings, foldFrom, zeroF}
-use Rattle.window.proofs.Times.{read-back}
 use Rattle.window.proofs.Folds.{Folded, start, turn, reading, done-readings}
 use Rattle.time_rollups.specs.Integrate.{areaAt, areaFrom, extend}
 use Rattle.time_rollups.proofs.integrate.area.Statement.{statement}

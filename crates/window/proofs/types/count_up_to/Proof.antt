@@ -6,8 +6,8 @@ use lib.Signed.{ltZ}
 use mir.Syntax.{w64}
 use mir.Val.{toZ}
 use mir.Facts.{toZ-ofZ}
+use Rattle.times.proofs.Milli.{read-back}
 use Rattle.window.proofs.Searches.{Undecided, search-starts, search-finds, search-goes-on, search-ends}
-use Rattle.window.proofs.Times.{read-back}
 use Rattle.window.proofs.types.count_up_to.Statement.{statement}
 use Rattle.window.proofs.types.count_up_to.Tie as tie
 
