@@ -25,7 +25,7 @@ use Rattle.claims.specs.Calls.{Call, Settings, run, settled, accepted, c
 -- rows 6 to 11 of each call
 abbrev pub settingsRows : Settings → Checked
 settingsRows (run rc) = settingsChecked rc
-settingsRows (settled sc) = settledSettings (sc .start) (sc .end) (sc .step) (sc .window) (sc .reach) (sc .«samples_scanned_per_call»)
+settingsRows (settled sc) = settledSettings sc
 
 abbrev points : Settings → ℕ
 points (run rc) = gridSize (rc .start) (rc .end) (rc .step)

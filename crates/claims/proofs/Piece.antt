@@ -12,15 +12,10 @@ use lib.Dec.{ltb}
 use lib.IntN.{ℤ, pos, negsuc, negℤ, natAbs}
 use lib.ListN.{length, take, drop, getD, length-take, length-drop}
 use lib.Signed.{leZ}
-use Rattle.config.specs.Rows.{gridChecked, maxPoints, outside, rangesChecked, row6, row7, row8, row9, row10, row11, settingsChecked, settledRow8, settledRow9, settledSettings, spanOutside}
-use Rattle.config.specs.Settle.{settleOf, settlement}
-use Rattle.config.specs.declared.settings.RollupConfig.{RollupConfig}
-use Rattle.config.proofs.Limits.{settled-in-range}
-use Rattle.config.proofs.Passed.{settings-passed, spans}
-use Rattle.rollup.specs.declared.handler.RollupHandler.{RollupHandler}
-use Rattle.run.proofs.Passed.{few-points, per-call-passes}
+use Rattle.config.specs.Rows.{maxPoints, outside, row6, row7, row11, settledRow8, settledRow9, settledSettings, spanOutside}
+use Rattle.run.proofs.Passed.{run-sound, settled-sound}
 use Rattle.run.specs.Run.{Lent, Plan, lentChecked, planned, row12, row14, runPlan, settledChecked, settledPlan, slicesChecked}
-use Rattle.run.specs.declared.SettledConfig.{SettledConfig}
+use Rattle.config.specs.declared.settings.SettledConfig.{SettledConfig}
 use Rattle.series.specs.Refusals.{firstOf, refusedIf}
 use Rattle.series.specs.Rows.{row1, row5, row13, seriesChecked, timesChecked}
 use Rattle.series.specs.declared.refusal.Checked.{Checked}
@@ -54,51 +49,6 @@ record Sound (s : Settings) (p : Plan) : Type 0 where
   nine : settledRow9 (p .per-call) ≡ Accepted
   few : gridSize (startOf s) (endOf s) (stepOf s) ≤ maxPoints
 
-module _ (ts : List ℤ) (vs : List ℕ) (pre : PreFunction) (h : RollupHandler) where
-  sound-settled : (sc : SettledConfig) → settingsRows (settled sc) ≡ Accepted → Sound (settled sc) (settledPlan ts vs pre h sc)
-  unfolding settledSettings
-  sound-settled sc e =
-      let rows =
-      all-accept
-      (row6 (sc .step)
-      ∷ row7 (sc .start) (sc .end)
-      ∷ settledRow8 (sc .window) (sc .reach)
-      ∷ settledRow9 (sc .«samples_scanned_per_call»)
-      ∷ row11 (sc .start) (sc .end) (sc .step)
-      ∷ [])
-      e in
-      record {
-        span = spans (sc .start) (sc .end) (sc .step) (fails _ StepOutside (rows .0)) (fails _ SpanOutside (rows .1 .0));
-        grid = refl;
-        eight = rows .1 .1 .0;
-        nine = rows .1 .1 .1 .0;
-        few = few-points (sc .start) (sc .end) (sc .step) (rows .1 .1 .1 .1 .0);
-      }
-
-  sound-run : (rc : RollupConfig) → timesChecked ts ≡ Accepted → settingsRows (run rc) ≡ Accepted → Sound (run rc) (runPlan ts vs pre h rc)
-  unfolding settingsChecked settleOf
-  sound-run rc times e =
-      let limit = rc .«max_points_per_series» in
-      let ranges = rangesChecked (rc .start) (rc .end) (rc .step) (rc .window) (rc .«lookback_delta») (rc .«min_staleness_interval») limit (rc .«samples_scanned_per_call») in
-      let rows = all-accept (ranges ∷ gridChecked (rc .start) (rc .end) (rc .step) limit ∷ []) e in
-      let each =
-      all-accept
-      (row6 (rc .step)
-      ∷ row7 (rc .start) (rc .end)
-      ∷ row8 (rc .window)
-      ∷ row9 (rc .«lookback_delta») (rc .«min_staleness_interval») limit (rc .«samples_scanned_per_call»)
-      ∷ [])
-      (rows .0) in
-      let grid-rows = all-accept (row10 (rc .start) (rc .end) (rc .step) limit ∷ row11 (rc .start) (rc .end) (rc .step) ∷ []) (rows .1 .0) in
-      record {
-        span = settings-passed rc e .spans;
-        grid = refl;
-        eight =
-            settled-in-range ts rc (settlement ts rc) (rw (times, e));
-        nine = per-call-passes (rc .«lookback_delta») (rc .«min_staleness_interval») limit (rc .«samples_scanned_per_call») (each .1 .1 .1 .0);
-        few = few-points (rc .start) (rc .end) (rc .step) (grid-rows .1 .0);
-      }
-
 sound : (c : Call) → checked c ≡ Accepted → Sound (c .settings) (plan c)
 unfolding seriesChecked
 sound c ok = go (c .settings) (rows-accept c ok .1 .0)
@@ -107,8 +57,8 @@ sound c ok = go (c .settings) (rows-accept c ok .1 .0)
     times = all-accept (row1 (c .times) (c .values) ∷ timesChecked (c .times) ∷ row5 (c .values) ∷ []) (rows-accept c ok .0) .1 .0
 
     go : (s : Settings) → settingsRows s ≡ Accepted → Sound s (planBy c s)
-    go (run rc) e = sound-run (c .times) (c .values) (c .pre) (c .handler) rc times e
-    go (settled sc) e = sound-settled (c .times) (c .values) (c .pre) (c .handler) sc e
+    go (run rc) e = let r = run-sound (c .times) rc times e in record { span = r .span; grid = refl; eight = r .eight; nine = r .nine; few = r .few }
+    go (settled sc) e = let r = settled-sound sc e in record { span = r .span; grid = refl; eight = r .eight; nine = r .nine; few = r .few }
 
 -- ---- rows 6 and 7 let pass what they are known to
 
@@ -180,7 +130,10 @@ module _ (c : Call) (ok : checked c ≡ Accepted) (a b : ℕ) (order : a ≤ b) 
       ∙ ap length (piece-times (c .lent))
       ∙ simp (length-take, length-drop) (omega (arith, inside))
 
-  piece-settings : settledSettings from to step (plan c .window) (plan c .reach) (plan c .per-call) ≡ Accepted
+  abbrev stretch : SettledConfig
+  stretch = record { start = from; end = to; step = step; window = plan c .window; reach = plan c .reach; «samples_scanned_per_call» = plan c .per-call }
+
+  piece-settings : settledSettings stretch ≡ Accepted
   unfolding settledSettings
   piece-settings =
       let s = sound c ok in
@@ -198,7 +151,7 @@ module _ (c : Call) (ok : checked c ≡ Accepted) (a b : ℕ) (order : a ≤ b) 
   pub piece-accepted : (l : Lent) → OnlySlices (returned (piece c a b l) .answer)
   unfolding settledChecked slicesChecked
   piece-accepted l =
-      slices-only (seriesChecked (c .times) (c .values)) (settledSettings from to step (plan c .window) (plan c .reach) (plan c .per-call))
+      slices-only (seriesChecked (c .times) (c .values)) (settledSettings stretch)
       (ltb (length (l .dst)) (gridSize from to step)) (ltb (length (l .prepared)) (length (c .values))) (ltb (length (l .work)) (2 * length (c .values)))
       (plan (piece c a b l)) l (rows-accept c ok .0) piece-settings
 
@@ -212,5 +165,5 @@ module _ (c : Call) (ok : checked c ≡ Accepted) (a b : ℕ) (order : a ≤ b) 
       let prepared : row13 n (length (l .prepared)) ≡ Accepted = rw (le-ltb (length (l .prepared)) n (r .prepared)) in
       let work : row14 n (length (l .work)) ≡ Accepted = rw (le-ltb (length (l .work)) (2 * n) (r .work)) in
       all-accepted
-      (seriesChecked (c .times) (c .values) ∷ settledSettings from to step (plan c .window) (plan c .reach) (plan c .per-call) ∷ lentChecked n m l ∷ [])
+      (seriesChecked (c .times) (c .values) ∷ settledSettings stretch ∷ lentChecked n m l ∷ [])
       (rows-accept c ok .0, (piece-settings, (all-accepted (row12 m (length (l .dst)) ∷ row13 n (length (l .prepared)) ∷ row14 n (length (l .work)) ∷ []) (dst, (prepared, (work, tt))), tt)))

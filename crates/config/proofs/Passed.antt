@@ -22,7 +22,8 @@ use Rattle.series.specs.declared.refusal.Checked.{Checked}
 use Rattle.series.specs.declared.refusal.Checked.the-variants.{Accepted, Refused}
 use Rattle.series.proofs.Accepted.{all-accept, fails}
 use Rattle.config.specs.declared.settings.RollupConfig.{RollupConfig}
-use Rattle.config.specs.Rows.{outside, spanOutside, settingOutside, perCallOver, row6, row7, row8, row9, gridChecked, settingsChecked}
+use Rattle.config.specs.declared.settings.SettledConfig.{SettledConfig}
+use Rattle.config.specs.Rows.{outside, spanOutside, settingOutside, perCallOver, row6, row7, row8, row9, row10, row11, settledRow8, settledRow9, spanChecked, rangesChecked, settingsChecked, settledSettings}
 
 -- x is a number of ℕ, at most k
 pub record UpTo (k : ℕ) (x : ℤ) : Type 0 where
@@ -36,12 +37,19 @@ pub record Passed (rc : RollupConfig) : Type 0 where
   pub window : UpTo timeLimit (rc .window)
   pub lookback : UpTo timeLimit (rc .«lookback_delta»)
   pub staleness : UpTo timeLimit (rc .«min_staleness_interval»)
+  pub limit : UpTo timeLimit (rc .«max_points_per_series»)
 
 -- ---- rows that accept
 
 pub last-row : (row : Checked) → firstOf (row ∷ []) ≡ row
 last-row Accepted = refl
 last-row (Refused r) = refl
+
+-- the first two of a call's rows, taken together
+pub two-rows : (a b : Checked) (rows : List Checked) → firstOf (a ∷ b ∷ rows) ≡ firstOf (firstOf (a ∷ b ∷ []) ∷ rows)
+two-rows Accepted Accepted rows = refl
+two-rows Accepted (Refused r) rows = refl
+two-rows (Refused r) b rows = refl
 
 or-false : (a b : Bool) → (a || b) ≡ false → (a ≡ false) × (b ≡ false)
 or-false true b e = absurd (let z : _≡_ {A = ℕ} 0 1 = cc in omega arith)
@@ -93,32 +101,40 @@ spans start end step six seven =
       step-within = record { size = positive timeLimit step six .small };
     }
 
-module _ (rc : RollupConfig) where
-  abbrev ranges : List Checked
-  ranges =
-      row6 (rc .step)
-      ∷ row7 (rc .start) (rc .end)
-      ∷ row8 (rc .window)
-      ∷ row9 (rc .«lookback_delta») (rc .«min_staleness_interval») (rc .«max_points_per_series») (rc .«samples_scanned_per_call»)
-      ∷ []
+pub span-passed : (start end step : ℤ) → spanChecked start end step ≡ Accepted → Spans start end step
+span-passed start end step e =
+    let each = all-accept (row6 step ∷ row7 start end ∷ []) e in
+    spans start end step (fails _ StepOutside (each .0)) (fails _ SpanOutside (each .1 .0))
 
-  pub ranges-passed : firstOf ranges ≡ Accepted → Passed rc
+module _ (rc : RollupConfig) where
+  pub ranges-passed : rangesChecked rc ≡ Accepted → Passed rc
   unfolding settingOutside
   ranges-passed e =
-      let each = all-accept ranges e in
+      let nine = row9 (rc .«lookback_delta») (rc .«min_staleness_interval») (rc .«max_points_per_series») (rc .«samples_scanned_per_call») in
+      let each = all-accept (row6 (rc .step) ∷ row7 (rc .start) (rc .end) ∷ row8 (rc .window) ∷ nine ∷ []) e in
       let lookback = outside (pos 0) (pos timeLimit) (rc .«lookback_delta») in
       let staleness = outside (pos 0) (pos timeLimit) (rc .«min_staleness_interval») in
       let limit = outside (pos 0) (pos timeLimit) (rc .«max_points_per_series») in
-      let nine = or-false (lookback || staleness || limit) (perCallOver (rc .«samples_scanned_per_call»)) (fails _ SettingOutside (each .1 .1 .1 .0)) in
-      let two = or-false lookback staleness (or-false (lookback || staleness) limit (nine .0) .0) in
+      let but-last = or-false (lookback || staleness || limit) (perCallOver (rc .«samples_scanned_per_call»)) (fails _ SettingOutside (each .1 .1 .1 .0)) in
+      let three = or-false (lookback || staleness) limit (but-last .0) in
+      let two = or-false lookback staleness (three .0) in
       record {
         spans = spans (rc .start) (rc .end) (rc .step) (fails _ StepOutside (each .0)) (fails _ SpanOutside (each .1 .0));
         step = positive timeLimit (rc .step) (fails _ StepOutside (each .0));
         window = up-to timeLimit (rc .window) (fails _ WindowOutside (each .1 .1 .0));
         lookback = up-to timeLimit (rc .«lookback_delta») (two .0);
         staleness = up-to timeLimit (rc .«min_staleness_interval») (two .1);
+        limit = up-to timeLimit (rc .«max_points_per_series») (three .1);
       }
 
   pub settings-passed : settingsChecked rc ≡ Accepted → Passed rc
   unfolding settingsChecked
-  settings-passed e = ranges-passed (all-accept (firstOf ranges ∷ gridChecked (rc .start) (rc .end) (rc .step) (rc .«max_points_per_series») ∷ []) e .0)
+  settings-passed e =
+      ranges-passed
+      (all-accept (rangesChecked rc ∷ row10 (rc .start) (rc .end) (rc .step) (rc .«max_points_per_series») ∷ row11 (rc .start) (rc .end) (rc .step) ∷ []) e .0)
+
+pub settled-spans : (sc : SettledConfig) → settledSettings sc ≡ Accepted → Spans (sc .start) (sc .end) (sc .step)
+unfolding settledSettings
+settled-spans sc e =
+    let rows = all-accept (row6 (sc .step) ∷ row7 (sc .start) (sc .end) ∷ settledRow8 (sc .window) (sc .reach) ∷ settledRow9 (sc .«samples_scanned_per_call») ∷ row11 (sc .start) (sc .end) (sc .step) ∷ []) e in
+    spans (sc .start) (sc .end) (sc .step) (fails _ StepOutside (rows .0)) (fails _ SpanOutside (rows .1 .0))

@@ -13,6 +13,7 @@ use Rattle.series.specs.Refusals.{refusedIf, firstOf}
 use Rattle.series.specs.declared.refusal.Checked.{Checked}
 use Rattle.series.specs.declared.refusal.Refusal.the-variants.{StepOutside, SpanOutside, WindowOutside, SettingOutside, OverPointLimit, TooManyPoints}
 use Rattle.config.specs.declared.settings.RollupConfig.{RollupConfig}
+use Rattle.config.specs.declared.settings.SettledConfig.{SettledConfig}
 
 -- how many output times a grid may have
 abbrev pub maxPoints : ℕ
@@ -45,8 +46,12 @@ settledOutside window reach = outside (pos 1) (pos settledLimit) window || outsi
 abbrev pub settledRow8 : ℤ → ℤ → Checked
 settledRow8 window reach = refusedIf (settledOutside window reach) WindowOutside
 
+-- how large a per-call number may be
+abbrev pub maxPerCall : ℕ
+maxPerCall = 65535
+
 abbrev pub perCallOver : ℕ → Bool
-perCallOver n = ltb 65535 n
+perCallOver n = ltb maxPerCall n
 
 -- the lookback delta, the staleness interval, the point limit and the per-call number
 unfoldable pub settingOutside : ℤ → ℤ → ℤ → ℕ → Bool
@@ -70,24 +75,33 @@ row10 start end step limit = refusedIf (overPointLimit start end step limit) Ove
 abbrev pub row11 : ℤ → ℤ → ℤ → Checked
 row11 start end step = refusedIf (ltb maxPoints (gridSize start end step)) TooManyPoints
 
--- rows 6 to 9, which are on one setting or two
-abbrev pub rangesChecked : ℤ → ℤ → ℤ → ℤ → ℤ → ℤ → ℤ → ℕ → Checked
-rangesChecked start end step window lookback staleness limit perCall =
-    firstOf (row6 step ∷ row7 start end ∷ row8 window ∷ row9 lookback staleness limit perCall ∷ [])
+-- rows 6 and 7, on the grid's start, end and step
+abbrev pub spanChecked : ℤ → ℤ → ℤ → Checked
+spanChecked start end step = firstOf (row6 step ∷ row7 start end ∷ [])
 
--- rows 10 and 11, which are on the grid
-abbrev pub gridChecked : ℤ → ℤ → ℤ → ℤ → Checked
-gridChecked start end step limit = firstOf (row10 start end step limit ∷ row11 start end step ∷ [])
+-- rows 6 to 9, which are on one setting or two
+abbrev pub rangesChecked : RollupConfig → Checked
+rangesChecked rc =
+    firstOf
+    (row6 (rc .step)
+    ∷ row7 (rc .start) (rc .end)
+    ∷ row8 (rc .window)
+    ∷ row9 (rc .«lookback_delta») (rc .«min_staleness_interval») (rc .«max_points_per_series») (rc .«samples_scanned_per_call»)
+    ∷ [])
 
 -- rows 6 to 11
 unfoldable pub settingsChecked : RollupConfig → Checked
 settingsChecked rc =
     firstOf
-    (rangesChecked (rc .start) (rc .end) (rc .step) (rc .window) (rc .«lookback_delta») (rc .«min_staleness_interval») (rc .«max_points_per_series») (rc .«samples_scanned_per_call»)
-    ∷ gridChecked (rc .start) (rc .end) (rc .step) (rc .«max_points_per_series»)
-    ∷ [])
+    (rangesChecked rc ∷ row10 (rc .start) (rc .end) (rc .step) (rc .«max_points_per_series») ∷ row11 (rc .start) (rc .end) (rc .step) ∷ [])
 
 -- rows 6 to 11 of a settled run
-unfoldable pub settledSettings : ℤ → ℤ → ℤ → ℤ → ℤ → ℕ → Checked
-settledSettings start end step window reach perCall =
-    firstOf (row6 step ∷ row7 start end ∷ settledRow8 window reach ∷ settledRow9 perCall ∷ row11 start end step ∷ [])
+unfoldable pub settledSettings : SettledConfig → Checked
+settledSettings sc =
+    firstOf
+    (row6 (sc .step)
+    ∷ row7 (sc .start) (sc .end)
+    ∷ settledRow8 (sc .window) (sc .reach)
+    ∷ settledRow9 (sc .«samples_scanned_per_call»)
+    ∷ row11 (sc .start) (sc .end) (sc .step)
+    ∷ [])

@@ -4,7 +4,7 @@ use series::Checked;
 use series::Refusal;
 ghost use mathlib.Core.Path.{_≡_};
 ghost use Rattle.times.specs.Grid.{Spans};
-ghost use Rattle.config.specs.Rows.{outside, spanOutside, settingOutside, overPointLimit, rangesChecked, gridChecked, settingsChecked, settledOutside, settledSettings};
+ghost use Rattle.config.specs.Rows.{outside, spanOutside, settingOutside, overPointLimit, row11, spanChecked, rangesChecked, settingsChecked, settledOutside, settledSettings};
 
 // Times and lengths of time are milliseconds. A window of 0 stands for the step.
 pub struct RollupConfig {
@@ -17,6 +17,16 @@ pub struct RollupConfig {
     pub lookback_delta: i64,
     pub min_staleness_interval: i64,
     pub max_points_per_series: i64,
+    pub samples_scanned_per_call: u64,
+}
+
+// The settings of a settled run, which is given its window and its reach.
+pub struct SettledConfig {
+    pub start: i64,
+    pub end: i64,
+    pub step: i64,
+    pub window: i64,
+    pub reach: i64,
     pub samples_scanned_per_call: u64,
 }
 
@@ -83,18 +93,9 @@ fn is_over_point_limit(start: i64, end: i64, step: i64, max_points: i64) -> bool
     false
 }
 
-// Rows 6 to 9.
-fn check_ranges(
-    start: i64,
-    end: i64,
-    step: i64,
-    window: i64,
-    lookback_delta: i64,
-    min_staleness_interval: i64,
-    max_points: i64,
-    per_call: u64,
-) -> Checked
-    ensures { λ r. ⌜ r ≡ rangesChecked start end step window «lookback_delta» «min_staleness_interval» «max_points» «per_call» ⌝ }
+// Rows 6 and 7.
+fn check_span(start: i64, end: i64, step: i64) -> Checked
+    ensures { λ r. ⌜ r ≡ spanChecked start end step ⌝ }
 {
     if is_outside(1, LIMIT, step) {
         return Checked::Refused(Refusal::StepOutside);
@@ -102,23 +103,36 @@ fn check_ranges(
     if is_span_outside(start, end) {
         return Checked::Refused(Refusal::SpanOutside);
     }
-    if is_outside(0, LIMIT, window) {
+    Checked::Accepted
+}
+
+// Rows 6 to 9.
+fn check_ranges(rc: RollupConfig) -> Checked
+    ensures { λ r. ⌜ r ≡ rangesChecked rc ⌝ }
+{
+    let span = check_span(rc.start, rc.end, rc.step);
+    if let Checked::Refused(r) = span {
+        return Checked::Refused(r);
+    }
+    if is_outside(0, LIMIT, rc.window) {
         return Checked::Refused(Refusal::WindowOutside);
     }
-    if is_setting_outside(lookback_delta, min_staleness_interval, max_points, per_call) {
+    if is_setting_outside(
+        rc.lookback_delta,
+        rc.min_staleness_interval,
+        rc.max_points_per_series,
+        rc.samples_scanned_per_call,
+    ) {
         return Checked::Refused(Refusal::SettingOutside);
     }
     Checked::Accepted
 }
 
-// Rows 10 and 11.
-fn check_grid(start: i64, end: i64, step: i64, max_points: i64) -> Checked
+// Row 11.
+fn check_points(start: i64, end: i64, step: i64) -> Checked
     requires { ⌜ Spans start end step ⌝ }
-    ensures { λ r. ⌜ r ≡ gridChecked start end step «max_points» ⌝ }
+    ensures { λ r. ⌜ r ≡ row11 start end step ⌝ }
 {
-    if is_over_point_limit(start, end, step, max_points) {
-        return Checked::Refused(Refusal::OverPointLimit);
-    }
     if MAX_POINTS < times::grid::points(start, end, step) {
         return Checked::Refused(Refusal::TooManyPoints);
     }
@@ -129,20 +143,14 @@ fn check_grid(start: i64, end: i64, step: i64, max_points: i64) -> Checked
 pub fn check_settings(rc: RollupConfig) -> Checked
     ensures { λ r. ⌜ r ≡ settingsChecked rc ⌝ }
 {
-    let ranges = check_ranges(
-        rc.start,
-        rc.end,
-        rc.step,
-        rc.window,
-        rc.lookback_delta,
-        rc.min_staleness_interval,
-        rc.max_points_per_series,
-        rc.samples_scanned_per_call,
-    );
+    let ranges = check_ranges(rc);
     if let Checked::Refused(r) = ranges {
         return Checked::Refused(r);
     }
-    check_grid(rc.start, rc.end, rc.step, rc.max_points_per_series)
+    if is_over_point_limit(rc.start, rc.end, rc.step, rc.max_points_per_series) {
+        return Checked::Refused(Refusal::OverPointLimit);
+    }
+    check_points(rc.start, rc.end, rc.step)
 }
 
 // Row 8's condition in a settled run.
@@ -156,30 +164,18 @@ fn is_settled_outside(window: i64, reach: i64) -> bool
 }
 
 // Rows 6 to 11 of a settled run: its own row 8, of row 9 the per-call number, and no row 10.
-pub fn check_settled(
-    start: i64,
-    end: i64,
-    step: i64,
-    window: i64,
-    reach: i64,
-    per_call: u64,
-) -> Checked
-    ensures { λ r. ⌜ r ≡ settledSettings start end step window reach «per_call» ⌝ }
+pub fn check_settled(sc: SettledConfig) -> Checked
+    ensures { λ r. ⌜ r ≡ settledSettings sc ⌝ }
 {
-    if is_outside(1, LIMIT, step) {
-        return Checked::Refused(Refusal::StepOutside);
+    let span = check_span(sc.start, sc.end, sc.step);
+    if let Checked::Refused(r) = span {
+        return Checked::Refused(r);
     }
-    if is_span_outside(start, end) {
-        return Checked::Refused(Refusal::SpanOutside);
-    }
-    if is_settled_outside(window, reach) {
+    if is_settled_outside(sc.window, sc.reach) {
         return Checked::Refused(Refusal::WindowOutside);
     }
-    if MAX_PER_CALL < per_call {
+    if MAX_PER_CALL < sc.samples_scanned_per_call {
         return Checked::Refused(Refusal::SettingOutside);
     }
-    if MAX_POINTS < times::grid::points(start, end, step) {
-        return Checked::Refused(Refusal::TooManyPoints);
-    }
-    Checked::Accepted
+    check_points(sc.start, sc.end, sc.step)
 }

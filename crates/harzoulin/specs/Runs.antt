@@ -6,7 +6,7 @@ use lib.IntN.{ℤ}
 use Rattle.config.specs.declared.settings.RollupConfig.{RollupConfig}
 use Rattle.series.specs.Answers.{Outcome}
 use Rattle.run.specs.Run.{Lent, runOf, settledRunOf}
-use Rattle.run.specs.declared.SettledConfig.{SettledConfig}
+use Rattle.config.specs.declared.settings.SettledConfig.{SettledConfig}
 use Rattle.harzoulin.specs.Exported.{unnamed}
 use Rattle.series.specs.declared.choice.Step.{Step}
 use Rattle.series.specs.declared.choice.Step.the-variants.{Known, Unknown}

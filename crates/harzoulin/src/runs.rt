@@ -3,10 +3,10 @@
 
 use crate::refuse;
 use config::settings::RollupConfig;
+use config::settings::SettledConfig;
 use rollup::choice::Chosen;
 use rollup::handler::RollupHandler;
 use run::Figures;
-use run::SettledConfig;
 use series::PreFunction;
 use series::Refusal;
 use series::Step;

@@ -1,7 +1,10 @@
 // Run and settled run: from a series, a preparing step, a rollup and settings to one number per output time and a count.
 // On a refusal every slice is as it was.
 
+use config::course::Course;
+use config::course::settled_course;
 use config::settings::RollupConfig;
+use config::settings::SettledConfig;
 use config::settings::check_settled;
 use config::settle::Settled;
 use config::settle::settle_settings;
@@ -10,7 +13,6 @@ use series::Checked;
 use series::PreFunction;
 use series::Refusal;
 use series::check_series;
-use times::grid::points;
 ghost use mathlib.Core.Path.{_≡_};
 ghost use Rattle.series.specs.Answers.{outcome};
 ghost use Rattle.run.specs.Run.{figuresReply, lent, runOf, settledRunOf};
@@ -23,16 +25,6 @@ mod record;
 pub enum Figures {
     Counted(u64),
     Refused(Refusal),
-}
-
-// The settings of a settled run, which is given its window and its reach.
-pub struct SettledConfig {
-    pub start: i64,
-    pub end: i64,
-    pub step: i64,
-    pub window: i64,
-    pub reach: i64,
-    pub samples_scanned_per_call: u64,
 }
 
 // A refusal to settle, handed on.
@@ -75,17 +67,20 @@ pub fn run(
     else {
         return refused(settled);
     };
+    let course = Course {
+        start: rc.start,
+        step: rc.step,
+        points,
+        window,
+        reach,
+        samples_scanned_per_call: rc.samples_scanned_per_call,
+    };
     execute::execute_within(
         timestamps,
         values,
         pre,
         handler,
-        rc.start,
-        rc.step,
-        points,
-        window,
-        reach,
-        rc.samples_scanned_per_call,
+        course,
         dst_values,
         prepared,
         work,
@@ -109,14 +104,7 @@ pub fn settled_run(
     if let Checked::Refused(r) = checked {
         return Figures::Refused(r);
     }
-    let settings = check_settled(
-        sc.start,
-        sc.end,
-        sc.step,
-        sc.window,
-        sc.reach,
-        sc.samples_scanned_per_call,
-    );
+    let settings = check_settled(sc);
     if let Checked::Refused(r) = settings {
         return Figures::Refused(r);
     }
@@ -125,12 +113,7 @@ pub fn settled_run(
         values,
         pre,
         handler,
-        sc.start,
-        sc.step,
-        points(sc.start, sc.end, sc.step),
-        sc.window,
-        sc.reach,
-        sc.samples_scanned_per_call,
+        settled_course(sc),
         dst_values,
         prepared,
         work,

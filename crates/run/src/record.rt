@@ -9,6 +9,7 @@ ghost use Rattle.times.specs.Later.{NotFalling};
 ghost use Rattle.run.specs.Index.{Found, valueAt, valueBefore, valueIf, predecessorAt};
 ghost use Rattle.run.specs.Place.{Timed};
 ghost use Rattle.run.specs.Record.{readings, recordAt};
+use config::course::Course;
 use window::types::RollupFuncArg;
 
 // The value at k, and NaN where there is none.
@@ -54,21 +55,21 @@ fn value_if(time: i64, limit: i64, x: f64) -> f64
     if time > limit { x } else { 0.0 / 0.0 }
 }
 
-// The record at t_end, for the window's length and the reach.
+// The record at t_end, for the course's window and reach.
 pub fn record_at(
     timestamps: &[i64],
     values: &[u64],
     i: usize,
     j: usize,
     t_end: i64,
-    window: i64,
-    max_prev_interval: i64,
+    course: Course,
 ) -> RollupFuncArg
-    requires { ⌜ (length (now timestamps) ≡ length (now values)) × NotFalling (now timestamps) ⌝ ∗ ⌜ Found (now timestamps) window «t_end» i j ⌝ ∗ ⌜ Timed «t_end» window «max_prev_interval» ⌝ }
-    ensures { λ r. ⌜ r ≡ recordAt (readings (now (timestamps .entry)) (now (values .entry))) window «max_prev_interval» «t_end» .arg ⌝ }
+    requires { ⌜ (length (now timestamps) ≡ length (now values)) × NotFalling (now timestamps) ⌝ ∗ ⌜ Found (now timestamps) (course .window) «t_end» i j ⌝ ∗ ⌜ Timed «t_end» course ⌝ }
+    ensures { λ r. ⌜ r ≡ recordAt (readings (now (timestamps .entry)) (now (values .entry))) (course .window) (course .reach) «t_end» .arg ⌝ }
 {
+    let window = course.window;
     let t_start = t_end - window;
-    let limit = t_start - max_prev_interval;
+    let limit = t_start - course.reach;
     let prev_timestamp = predecessor_time(timestamps, i, limit);
     let real_prev_value = value_before(values, i);
     RollupFuncArg {

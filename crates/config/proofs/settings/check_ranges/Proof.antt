@@ -1,69 +1,73 @@
 -- `settings::check_ranges` meets its contract: it goes through rows 6 to 9 in the table's order.
 -- Assumes nothing.
-use mathlib.Core.Bool.{false}
 use mathlib.Core.Path.{_≡_, sym, _∙_}
 use borrow.Author.Needs.{needs}
 use lib.IntN.{pos}
-use mir.Facts.{toZ-ofZ}
+use Rattle.series.proofs.Signed.{read-back}
 use Rattle.times.specs.Milli.{timeLimit}
-use Rattle.config.specs.Rows.{outside, spanOutside}
+use Rattle.series.specs.declared.refusal.Checked.the-variants.{Accepted}
+use Rattle.config.specs.declared.settings.RollupConfig.{RollupConfig}
+use Rattle.config.specs.Rows.{outside, settingOutside, spanChecked}
+use Rattle.config.proofs.Passed.{two-rows}
 use Rattle.config.proofs.settings.check_ranges.Statement.{statement}
 use Rattle.config.proofs.settings.check_ranges.Tie as tie
 
-is-outside-requires : tie.Need-is-outside-requires
-is-outside-requires c κs = search needs
+-- each callee's answer, of the settings themselves and not of their bits
+module _ (c : tie.After-check-span) where
+  abbrev read : tie.After-struct-told
+  read = c .before .before .before
+
+  abbrev rc : RollupConfig
+  rc = read .before .args .rc
+
+  span : c .check-span .result ≡ spanChecked (rc .start) (rc .end) (rc .step)
+  span =
+      let g = read .struct-told .given in
+      rw (read-back (rc .start) (g .0 .1), read-back (rc .end) (g .1 .0 .1), read-back (rc .step) (g .1 .1 .0 .1)) at (c .check-span .ensures)
+
+module _ (c : tie.After-is-outside) where
+  abbrev first : tie.After-check-span
+  first = c .before .before .before .before
+
+  -- rows 6 and 7 accepted
+  passed : spanChecked (rc first .start) (rc first .end) (rc first .step) ≡ Accepted
+  passed = sym (span first) ∙ c .before .before .enum-told .given .1
+
+  eight : c .is-outside .result ≡ outside (pos 0) (pos timeLimit) (rc first .window)
+  eight = rw (read-back (rc first .window) (read first .struct-told .given .1 .1 .1 .0 .1)) at (c .is-outside .ensures)
+
+nine : (c : tie.After-is-setting-outside) → let s = rc (first (c .before .before .before .before .before)) in c .is-setting-outside .result ≡ settingOutside (s .«lookback_delta») (s .«min_staleness_interval») (s .«max_points_per_series») (s .«samples_scanned_per_call»)
+nine c =
+    let f = first (c .before .before .before .before .before) in
+    let g = read f .struct-told .given .1 .1 .1 .1 .1 .1 in
+    rw (read-back (rc f .«lookback_delta») (g .0 .1), read-back (rc f .«min_staleness_interval») (g .1 .0 .1), read-back (rc f .«max_points_per_series») (g .1 .1 .0 .1)) at (c .is-setting-outside .ensures)
 
 returns : tie.Need-returns
-returns c = rw (sym (rw (toZ-ofZ (c .before .before .fits .step)) at (c .before .is-outside .ensures)) ∙ c .if1 .taken)
-
-row6-passed : (c : tie.Else1) → outside (pos 1) (pos timeLimit) (c .before .before .args .step) ≡ false
-row6-passed c = sym (rw (toZ-ofZ (c .before .before .fits .step)) at (c .before .is-outside .ensures)) ∙ c .if1 .left
-
-is-span-outside-requires : tie.Need-is-span-outside-requires
-is-span-outside-requires c κs = search needs
+returns c = let f = c .before .before .before in rw (two-rows, ← span f, c .before .span .given .1)
 
 returns-2 : tie.Need-returns-2
-returns-2 c =
-    let s = c .before .before .before .before in
-    rw (row6-passed (c .before .before), sym (rw (toZ-ofZ (s .fits .start), toZ-ofZ (s .fits .end)) at (c .before .is-span-outside .ensures)) ∙ c .if2 .taken)
-
-row7-passed : (c : tie.Else2) → spanOutside (c .before .before .before .before .args .start) (c .before .before .before .before .args .end) ≡ false
-row7-passed c =
-    let s = c .before .before .before .before in
-    sym (rw (toZ-ofZ (s .fits .start), toZ-ofZ (s .fits .end)) at (c .before .is-span-outside .ensures)) ∙ c .if2 .left
-
-is-outside-requires-2 : tie.Need-is-outside-requires-2
-is-outside-requires-2 c κs = search needs
+returns-2 c = rw (two-rows, passed (c .before), ← eight (c .before), c .if1 .taken)
 
 returns-3 : tie.Need-returns-3
 returns-3 c =
-    let e = c .before .before in
-    let s = e .before .before .before .before in
-    rw (row6-passed (e .before .before), row7-passed e, sym (rw (toZ-ofZ (s .fits .window)) at (c .before .is-outside2 .ensures)) ∙ c .if3 .taken)
-
-row8-passed : (c : tie.Else3) → outside (pos 0) (pos timeLimit) (c .before .before .before .before .before .before .args .window) ≡ false
-row8-passed c =
-    let s = c .before .before .before .before .before .before in
-    sym (rw (toZ-ofZ (s .fits .window)) at (c .before .is-outside2 .ensures)) ∙ c .if3 .left
-
-is-setting-outside-requires : tie.Need-is-setting-outside-requires
-is-setting-outside-requires c κs = search needs
+    let e = c .before .before .before .before .before in
+    rw (two-rows, passed (e .before), ← eight (e .before), e .if1 .left, ← nine (c .before), c .if2 .taken)
 
 returns-4 : tie.Need-returns-4
 returns-4 c =
-    let f = c .before .before in
-    let e = f .before .before in
-    let s = e .before .before .before .before in
-    rw (row6-passed (e .before .before), row7-passed e, row8-passed f, sym (rw (toZ-ofZ (s .fits .lookback-delta), toZ-ofZ (s .fits .min-staleness-interval), toZ-ofZ (s .fits .max-points)) at (c .before .is-setting-outside .ensures)) ∙ c .if4 .taken)
-
-returns-5 : tie.Need-returns-5
-returns-5 c =
-    let f = c .before .before in
-    let e = f .before .before in
-    let s = e .before .before .before .before in
-    rw (row6-passed (e .before .before), row7-passed e, row8-passed f, sym (rw (toZ-ofZ (s .fits .lookback-delta), toZ-ofZ (s .fits .min-staleness-interval), toZ-ofZ (s .fits .max-points)) at (c .before .is-setting-outside .ensures)) ∙ c .if4 .left)
+    let e = c .before .before .before .before .before in
+    rw (two-rows, passed (e .before), ← eight (e .before), e .if1 .left, ← nine (c .before), c .if2 .left)
 
 pub check-ranges-spec : {M : Type 1} → statement M
 check-ranges-spec =
     tie.close
-    (tie.spec is-outside-requires returns is-span-outside-requires returns-2 is-outside-requires-2 returns-3 is-setting-outside-requires returns-4 returns-5)
+    (tie.spec
+    (λ c κs. search needs)
+    (λ c. search needs)
+    returns
+    (λ c. search needs)
+    (λ c κs. search needs)
+    returns-2
+    (λ c κs. search needs)
+    returns-3
+    returns-4)

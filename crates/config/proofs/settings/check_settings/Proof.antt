@@ -2,77 +2,76 @@
 -- Assumes nothing.
 use mathlib.Core.Path.{_≡_, sym, _∙_}
 use borrow.Author.Needs.{needs}
-use mir.Syntax.{w64}
-use mir.Val.{SFits}
 use mir.Facts.{toZ-ofZ}
 use Rattle.times.specs.Grid.{Spans}
+use Rattle.times.proofs.Milli.{within-fits}
+use Rattle.series.specs.declared.refusal.Checked.the-variants.{Accepted}
 use Rattle.config.specs.declared.settings.RollupConfig.{RollupConfig}
-use Rattle.config.specs.Rows.{rangesChecked, gridChecked, settingsChecked}
-use Rattle.config.proofs.Passed.{last-row, ranges-passed}
+use Rattle.config.specs.Rows.{overPointLimit, rangesChecked, row11, settingsChecked}
+use Rattle.config.proofs.Passed.{Passed, last-row, ranges-passed, up-to-fits}
 use Rattle.config.proofs.settings.check_settings.Statement.{statement}
 use Rattle.config.proofs.settings.check_settings.Tie as tie
 
-check-ranges-requires : tie.Need-check-ranges-requires
-check-ranges-requires c κs = search needs
-
-enum-known-ranges : tie.Need-enum-known-ranges
-enum-known-ranges c = search needs
-
--- each signed field is an `i64`
-module _ (c : tie.After-struct-told) where
-  abbrev rc : RollupConfig
-  rc = c .before .args .rc
-
-  start : SFits w64 (rc .start)
-  start = record { sfits = c .struct-told .given .0 .1 }
-
-  end : SFits w64 (rc .end)
-  end = record { sfits = c .struct-told .given .1 .0 .1 }
-
-  step : SFits w64 (rc .step)
-  step = record { sfits = c .struct-told .given .1 .1 .0 .1 }
-
-  window : SFits w64 (rc .window)
-  window = record { sfits = c .struct-told .given .1 .1 .1 .0 .1 }
-
-  lookback : SFits w64 (rc .«lookback_delta»)
-  lookback = record { sfits = c .struct-told .given .1 .1 .1 .1 .1 .1 .0 .1 }
-
-  staleness : SFits w64 (rc .«min_staleness_interval»)
-  staleness = record { sfits = c .struct-told .given .1 .1 .1 .1 .1 .1 .1 .0 .1 }
-
-  limit : SFits w64 (rc .«max_points_per_series»)
-  limit = record { sfits = c .struct-told .given .1 .1 .1 .1 .1 .1 .1 .1 .0 .1 }
-
-module _ (c : tie.After-check-ranges) where
-  abbrev s : tie.After-struct-told
-  s = c .before .before .before .before .before .before .before
-
-  ranges : c .check-ranges .result ≡ rangesChecked (rc s .start) (rc s .end) (rc s .step) (rc s .window) (rc s .«lookback_delta») (rc s .«min_staleness_interval») (rc s .«max_points_per_series») (rc s .«samples_scanned_per_call»)
-  ranges =
-      rw (toZ-ofZ (start s), toZ-ofZ (end s), toZ-ofZ (step s), toZ-ofZ (window s), toZ-ofZ (lookback s), toZ-ofZ (staleness s), toZ-ofZ (limit s)) at (c .check-ranges .ensures)
-
 returns : tie.Need-returns
 unfolding settingsChecked
-returns c = rw (← ranges (c .before .before .before), c .before .ranges .given .1)
+returns c = rw (← c .before .before .before .check-ranges .ensures, c .before .ranges .given .1)
 
-enum-told : tie.Need-enum-told
-enum-told c = search needs
+-- rows 6 to 9 accepted
+module _ (c : tie.After-enum-told) where
+  abbrev rc : RollupConfig
+  rc = c .before .before .before .args .rc
 
-check-grid-requires : tie.Need-check-grid-requires
-check-grid-requires c κs =
-    let r = c .before .before .before .before .before .before in
-    rw (toZ-ofZ (start (s r)), toZ-ofZ (end (s r)), toZ-ofZ (step (s r)))
-    (ranges-passed (rc (s r)) (sym (ranges r) ∙ c .before .before .before .before .enum-told .given .1) .spans)
+  accepted : rangesChecked rc ≡ Accepted
+  accepted = sym (c .before .before .check-ranges .ensures) ∙ c .enum-told .given .1
+
+  passed : Passed rc
+  passed = ranges-passed rc accepted
+
+  spans : Spans (rc .start) (rc .end) (rc .step)
+  spans = passed .spans
+
+is-over-point-limit-requires : tie.Need-is-over-point-limit-requires
+is-over-point-limit-requires c κs =
+    let p = spans (c .before .before .before .before) in
+    rw (toZ-ofZ (within-fits tt (p .start-within)), toZ-ofZ (within-fits tt (p .end-within)), toZ-ofZ (within-fits tt (p .step-within))) p
+
+module _ (c : tie.After-is-over-point-limit) where
+  abbrev told : tie.After-enum-told
+  told = c .before .before .before .before .before
+
+  ten : c .is-over-point-limit .result ≡ overPointLimit (rc told .start) (rc told .end) (rc told .step) (rc told .«max_points_per_series»)
+  ten =
+      let p = spans told in
+      rw (toZ-ofZ (within-fits tt (p .start-within)), toZ-ofZ (within-fits tt (p .end-within)), toZ-ofZ (within-fits tt (p .step-within)), toZ-ofZ (up-to-fits (passed told .limit)))
+      at (c .is-over-point-limit .ensures)
 
 returns-2 : tie.Need-returns-2
 unfolding settingsChecked
-returns-2 c =
-    let r = c .before .before .before .before .before .before .before in
-    let q = s r in
-    rw (← ranges r, c .before .before .before .before .before .enum-told .given .1)
-    ((rw (toZ-ofZ (start q), toZ-ofZ (end q), toZ-ofZ (step q), toZ-ofZ (limit q)) at (c .check-grid .ensures))
-    ∙ sym (last-row (gridChecked (rc q .start) (rc q .end) (rc q .step) (rc q .«max_points_per_series»))))
+returns-2 c = rw (accepted (told (c .before)), ← ten (c .before), c .if1 .taken)
+
+check-points-requires : tie.Need-check-points-requires
+check-points-requires c κs =
+    let p = spans (told (c .before .before .before .before)) in
+    rw (toZ-ofZ (within-fits tt (p .start-within)), toZ-ofZ (within-fits tt (p .end-within)), toZ-ofZ (within-fits tt (p .step-within))) p
+
+returns-3 : tie.Need-returns-3
+unfolding settingsChecked
+returns-3 c =
+    let e = c .before .before .before .before in
+    let t = told (e .before) in
+    let p = spans t in
+    rw (accepted t, ← ten (e .before), e .if1 .left, last-row (row11 (rc t .start) (rc t .end) (rc t .step)))
+    (rw (toZ-ofZ (within-fits tt (p .start-within)), toZ-ofZ (within-fits tt (p .end-within)), toZ-ofZ (within-fits tt (p .step-within))) at (c .check-points .ensures))
 
 pub check-settings-spec : {M : Type 1} → statement M
-check-settings-spec = tie.close (tie.spec check-ranges-requires enum-known-ranges returns enum-told check-grid-requires returns-2)
+check-settings-spec =
+    tie.close
+    (tie.spec
+    (λ c κs. search needs)
+    (λ c. search needs)
+    returns
+    (λ c. search needs)
+    is-over-point-limit-requires
+    returns-2
+    check-points-requires
+    returns-3)

@@ -11,10 +11,10 @@ use Rattle.run.proofs.record.record_at.Statement.{statement}
 use Rattle.run.proofs.record.record_at.Tie as tie
 
 sub-t-start : tie.Need-sub-t-start
-sub-t-start c = let t = c .before .pre .1 .1 in start-fits (t .time) (t .window)
+sub-t-start c = let t = c .before .before .pre .1 .1 in start-fits (t .time) (t .lengths .window)
 
 sub-limit : tie.Need-sub-limit
-sub-limit c = let t = c .before .pre .1 .1 in limit-fits (t .time) (t .window) (t .reach)
+sub-limit c = let t = c .before .before .before .before .pre .1 .1 in limit-fits (t .time) (t .lengths .window) (t .lengths .reach)
 
 predecessor-time-requires : tie.Need-predecessor-time-requires
 predecessor-time-requires c κs = search needs
@@ -30,19 +30,20 @@ value-at-requires c κs = search needs
 
 returns : tie.Need-returns
 returns c =
-    let s = c .before .before .before .before .before in
+    let s = c .before .before .before .before .before .before .before .before in
     let p = c .before .before .before .predecessor-time in
     let t = s .pre .1 .1 in
+    let l = t .lengths in
     let us = s .args .timestamps .now in
     let vs = s .args .values .now in
-    let w = s .args .window in
-    let r = s .args .max-prev-interval in
+    let w = s .args .course .window in
+    let r = s .args .course .reach in
     cc (
       record-is us vs (s .pre .0 .0) (s .pre .0 .1) w r (s .args .t-end) (s .args .i) (s .args .j) (s .pre .1 .0),
-      limit-back (t .time) (t .window) (t .reach),
+      limit-back (t .time) (l .window) (l .reach),
       toZ-ofZ w64 (p .result) (record { sfits = p .ok }),
       toZ-ofZ w64 _ (within-fits tt (t .time)),
-      toZ-ofZ w64 _ (within-fits tt (t .window)),
+      toZ-ofZ w64 _ (within-fits tt (l .window)),
       p .ensures,
       c .before .before .value-before .ensures,
       c .before .value-if .ensures,
