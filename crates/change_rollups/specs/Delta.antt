@@ -2,7 +2,7 @@
 -- Assumes nothing.
 use mathlib.Core.List.{List}
 use mathlib.Core.Bool.{Bool, cond}
-use Prim.Native.Nat.{ℕ, _-_}
+use Prim.Native.Nat.{_-_}
 use lib.Dec.{ltb, eqb}
 use lib.ListN.{length, drop, getD}
 use lib.Ieee.{Float, nan, binary64, add, sub, mul, lt, isNan, ofBits}

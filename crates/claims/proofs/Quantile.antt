@@ -16,7 +16,7 @@ use lib.Ieee.Fits.{mul-fits, nan-fits, ofInt-fits}
 use lib.Ieee.Bits.{ofBits-fits}
 use lib.Ieee.Exact.{HasValue}
 use borrow.Author.Tests.{eqb-true, le-ltb, ne-eqb}
-use Rattle.ieee.specs.Rank.{rank}
+use Rattle.ieee.proofs.Rank.{rank}
 use Rattle.ieee.specs.Value.{floorOf, negative}
 use Rattle.ieee.proofs.Exact.{count-exact, value-number}
 use Rattle.ieee.proofs.Order.{eq-rank, lt-rank}

@@ -13,7 +13,7 @@ use lib.Ieee.Back.{round-whole}
 use lib.Ieee.Exact.{HasValue}
 use lib.Ieee.Fits.{ofInt-fits}
 use borrow.Author.Tests.{leb-true}
-use Rattle.ieee.specs.Rank.{most, unitsOf, placed, rank}
+use Rattle.ieee.proofs.Rank.{most, unitsOf, placed, rank}
 use Rattle.ieee.proofs.Units.{units-of}
 
 pub count-exact : (n : ℕ) → n ≤ 2 ^ 53 → HasValue (ofInt binary64 (pos n)) false n 1

@@ -1,26 +1,24 @@
 -- `floorOf` by units: a value is whole where its units are a multiple of 2 ^ 1074, as they are from 2 ^ 52 on, and else the floor goes by the whole part.
 -- Below 2 ^ 52 the floor is found by a comparison with the truncated value. Assumes nothing.
 use mathlib.Core.Path.{_≡_, refl, sym, ap, _∙_, subst}
-use mathlib.Core.Bool.{Bool, true, false, cond, true≢false}
+use mathlib.Core.Bool.{Bool, true, false, cond}
 use mathlib.Core.Logic.{_⊎_, inl, inr}
 use Prim.Native.Nat.{ℕ, zero, suc, _+_, _-_, _*_, _/_, _%_, _^_, _≤_, _<_, min, zero-le, suc-le-suc}
-use native.Mathlib.Nat.{mod-one, add-zero, add-left-cancel, mul-right-comm, eq-of-mul-eq-mul-right, div-add-mod', le-div-iff-mul-le, mul-le-mul-left, lt-of-not-le}
+use native.Mathlib.Nat.{mod-one, add-zero, add-left-cancel, mul-right-comm, eq-of-mul-eq-mul-right, div-add-mod', le-div-iff-mul-le, mul-le-mul-left}
 use native.Mathlib.Omega.{arith}
 use lib.Dec.{T, eqb, ltb}
 use lib.IntN.{ℤ, pos, negsuc, negℤ, _-ℤ_, -ℤ-one}
 use lib.Pow.{pow-pos, pow-mono}
-use lib.Ieee.{Float, nan, inf, fin, binary64, up, down, fits, isNan, lt, eq, ofInt, toSigned, toUnsigned, inFloat}
-use lib.Ieee.Back.{unsigned-back}
-use lib.Ieee.Exact.{HasValue}
+use lib.Ieee.{Float, nan, inf, fin, binary64, up, down, fits, isNan, lt, eq, ofInt, toSigned, inFloat}
 use lib.Ieee.Fits.{down-pos, ofInt-fits}
 use borrow.Author.Tests.{eq-eqb, eqb-false, lt-ltb, le-ltb}
 use Rattle.ieee.specs.Value.{negative, floorOf, wholeBelow}
-use Rattle.ieee.specs.Rank.{most, unitsOf, placed, rank}
+use Rattle.ieee.proofs.Rank.{most, unitsOf, placed, rank}
 use Rattle.ieee.proofs.Patterns.{nan-or-number}
 use Rattle.ieee.proofs.Units.{held, units-fin, units-le}
 use Rattle.ieee.proofs.Order.{same-eqb, lt-rank, eq-rank}
-use Rattle.ieee.proofs.Whole.{part-of, unsigned-part, signed-part, reaches-up, reaches-down}
-use Rattle.ieee.proofs.Exact.{negative-exact, signed, signed-castable, signed-rank, signed-number}
+use Rattle.ieee.proofs.Whole.{part-of, signed-part, reaches-up, reaches-down}
+use Rattle.ieee.proofs.Exact.{signed, signed-castable, signed-rank, signed-number}
 
 -- ---- whole, by units: equal fractions leave no rest together
 
@@ -169,24 +167,3 @@ module _ (x : Float) (f : T (fits binary64 x)) (p : isNan x ≡ false) (small : 
         one-less = λ h l. rw (z-is, sym (lt-cut h) ∙ l) (minus-one q);
         below = λ h l. sym (floor-units x f ∙ rw (rest h, sym (lt-cut h) ∙ l));
       }
-
--- ---- the floor as a usize is the value as one
-
-rest-small : (x : Float) → T (fits binary64 x) → eqb (unitsOf x % 2 ^ 1074) 0 ≡ false → unitsOf x / 2 ^ 1074 < 2 ^ 52
-rest-small x f h = lt-of-not-le (λ (g : 2 ^ 52 ≤ unitsOf x / 2 ^ 1074). true≢false (sym (no-rest-from x f g) ∙ h))
-
-negative-part : (x : Float) (a c : ℕ) → HasValue x true a c → toUnsigned 64 x ≡ 0
-unfolding toUnsigned
-negative-part (fin s m e) a c v = rw (v .0)
-
-below-part : (s : Bool) (n : ℕ) → n < 2 ^ 52 → toUnsigned 64 (wholeBelow s n) ≡ cond s 0 (min n (2 ^ 64 - 1))
-unfolding wholeBelow
-below-part true n h = negative-part (ofInt binary64 (negsuc n)) (suc n) 1 (negative-exact n (omega arith))
-below-part false n h = let e : min n (2 ^ 64 - 1) ≡ n = omega arith in unsigned-back binary64 64 n (signed-castable false n (exact n h)) (omega arith) .1 ∙ sym e
-
-pub floor-part : (x : Float) → T (fits binary64 x) → toUnsigned 64 (floorOf x) ≡ toUnsigned 64 x
-floor-part x f = ap (toUnsigned 64) (floor-units x f) ∙ pick (eqb (unitsOf x % 2 ^ 1074) 0) refl
-  where
-    pick : (t : Bool) → eqb (unitsOf x % 2 ^ 1074) 0 ≡ t → toUnsigned 64 (cond t x (wholeBelow (negative x) (unitsOf x / 2 ^ 1074))) ≡ toUnsigned 64 x
-    pick true h = refl
-    pick false h = below-part (negative x) (unitsOf x / 2 ^ 1074) (rest-small x f h) ∙ sym (unsigned-part x f)

@@ -1,6 +1,7 @@
 -- Laws that several proofs cite, here and in the crates above.
 pub mod Patterns
 pub mod Exact
+pub mod Rank
 pub mod Units
 pub mod Order
 pub mod Whole

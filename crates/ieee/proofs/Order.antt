@@ -11,11 +11,11 @@ use lib.IntN.{ℤ}
 use lib.Pow.{pow-pos}
 use lib.Ieee.{Float, nan, inf, fin, binary64, up, down, below, level, lt, eq, le, fits, isNan, toBits}
 use lib.Ieee.Fits.{down-pos, eq→eqb, and-l}
-use borrow.Author.Tests.{ltb-true, ltb-false, leb-true, leb-false, lt-ltb, le-ltb, ne-eqb, le-leb}
+use borrow.Author.Tests.{ltb-true, ltb-false, leb-true, lt-ltb, le-ltb, ne-eqb, le-leb}
 use Rattle.ieee.specs.Value.{negative, totalLt}
-use Rattle.ieee.specs.Rank.{most, unitsOf, placed, rank, totalRank}
+use Rattle.ieee.proofs.Rank.{most, unitsOf, placed, rank, totalRank}
 use Rattle.ieee.proofs.Patterns.{not-nan, nan-or-number}
-use Rattle.ieee.proofs.Units.{held, units-fin, units-lt, units-le, patternAt, pattern-of, same-units}
+use Rattle.ieee.proofs.Units.{held, units-fin, units-lt, units-le, patternAt, pattern-of}
 
 -- two tests that pass together are equal
 same-test : (a b : Bool) → (T a → T b) → (T b → T a) → a ≡ b
@@ -221,9 +221,6 @@ not-le-not-lt x y h = split (lt x y) h
     split true e = e
     split false e = refl
 
-pub not-le-lt : (x y : Float) → T (fits binary64 x) → T (fits binary64 y) → isNan x ≡ false → isNan y ≡ false → le x y ≡ false → lt y x ≡ true
-not-le-lt x y f g p q h = lt-rank y x g f q p ∙ lt-ltb (rank y) (rank x) (leb-false (rank x) (rank y) (sym (le-rank x y f g p q) ∙ h))
-
 pub lt-le-trans : (x y z : Float) → T (fits binary64 x) → T (fits binary64 y) → T (fits binary64 z) → lt x y ≡ true → le y z ≡ true → lt x z ≡ true
 lt-le-trans x y z f g k a b =
     let n = lt-numbers x y a in
@@ -248,9 +245,6 @@ module _ (x y : Float) (f : T (fits binary64 x)) (g : T (fits binary64 y)) (h : 
   equal-units =
       let l : level (negative x) (unitsOf x) (negative y) (unitsOf y) ≡ true = sym (eq-units x y f g (eq-numbers x y h .0) (eq-numbers x y h .1)) ∙ h in
       eqb→eq (unitsOf x) (unitsOf y) (and-l (eqb (unitsOf x) (unitsOf y)) _ (subst T (sym l) tt))
-
-  pub equal-is-same : negative x ≡ negative y → x ≡ y
-  equal-is-same n = same-units x y f g (eq-numbers x y h .0) (eq-numbers x y h .1) n equal-units
 
   pub equal-patterns : ltb (toBits binary64 y) (toBits binary64 x) ≡ (negative x && not (negative y))
   equal-patterns = rw (pattern-of x (eq-numbers x y h .0), pattern-of y (eq-numbers x y h .1), equal-units) (by-sign (unitsOf y) (negative x) (negative y))
@@ -295,26 +289,3 @@ total-lt-rank x y f g = go (nan-or-number x) (nan-or-number y)
     go (inl d) (inr q) = rw d (nan-last y ∙ sym (le-ltb (totalRank nan) (totalRank y) (le-of-lt (below-nan y g q))))
     go (inr p) (inl e) = rw e (before-nan x p ∙ sym (lt-ltb (totalRank x) (totalRank nan) (below-nan x f p)))
     go (inr p) (inr q) = numbers x y f g p q
-
-one-place : (c u v : ℕ) → u ≤ c → v ≤ c → (s t : Bool) → placed c (suc c) s u ≡ placed c (suc c) t v → (s ≡ t) × (u ≡ v)
-one-place c u v a b false false h = (refl, omega arith)
-one-place c u v a b false true h = absurd (omega arith)
-one-place c u v a b true false h = absurd (omega arith)
-one-place c u v a b true true h = (refl, omega arith)
-
-one-number : (x y : Float) → T (fits binary64 x) → T (fits binary64 y) → isNan x ≡ false → isNan y ≡ false → totalRank x ≡ totalRank y → x ≡ y
-one-number x y f g p q h =
-    let same = one-place most (unitsOf x) (unitsOf y) (units-le x f) (units-le y g) (negative x) (negative y) (sym (number-rank x p) ∙ h ∙ number-rank y q) in
-    same-units x y f g p q (same .0) (same .1)
-
-pub total-rank-injective : (x y : Float) → T (fits binary64 x) → T (fits binary64 y) → totalRank x ≡ totalRank y → x ≡ y
-total-rank-injective x y f g h = go (nan-or-number x) (nan-or-number y)
-  where
-    apart : (a b : ℕ) → a < b → a ≡ b → ⊥
-    apart a b l e = omega arith
-
-    go : (x ≡ nan) ⊎ (isNan x ≡ false) → (y ≡ nan) ⊎ (isNan y ≡ false) → x ≡ y
-    go (inl d) (inl e) = d ∙ sym e
-    go (inl d) (inr q) = absurd (apart (totalRank y) (totalRank nan) (below-nan y g q) (sym h ∙ ap totalRank d))
-    go (inr p) (inl e) = absurd (apart (totalRank x) (totalRank nan) (below-nan x f p) (h ∙ ap totalRank e))
-    go (inr p) (inr q) = one-number x y f g p q h

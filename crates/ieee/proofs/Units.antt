@@ -14,7 +14,7 @@ use lib.Ieee.Digits.{back}
 use lib.Ieee.Fits.{and-l, and-r, up-pos, down-pos}
 use lib.Ieee.Scale.{finite}
 use Rattle.ieee.specs.Value.{negative}
-use Rattle.ieee.specs.Rank.{most, unitsOf}
+use Rattle.ieee.proofs.Rank.{most, unitsOf}
 
 -- ---- what it takes to fit, for both signs and for zero too
 
@@ -49,9 +49,6 @@ down-divides (negsuc a) l h =
 pub units-fin : (s : Bool) (m : ℕ) (e : ℤ) → Held m e → m * up e * 2 ^ 1074 ≡ unitsOf (fin s m e) * down e
 unfolding unitsOf
 units-fin s m e h = sym (div-mul-cancel (down e) (dvd-mul-left-of-dvd (down e) (down-divides e 1074 (h .fine)) (m * up e)))
-
-pub units-value : (x : Float) → T (fits binary64 x) → T (finite x) → HasValue x (negative x) (unitsOf x) (2 ^ 1074)
-units-value (fin s m e) f t = (refl, units-fin s m e (held s m e f))
 
 -- whatever fraction a / c the value equals
 pub units-of : (x : Float) (s : Bool) (a c : ℕ) → T (fits binary64 x) → HasValue x s a c → unitsOf x * c ≡ a * 2 ^ 1074

@@ -1,21 +1,20 @@
 -- The whole part of a value: its units over 2 ^ 1074, whatever m and e are. Assumes nothing.
-use mathlib.Core.Path.{_≡_, refl, sym, ap, _∙_, subst}
+use mathlib.Core.Path.{_≡_, refl, sym, ap, _∙_}
 use mathlib.Core.Bool.{Bool, true, false, cond}
-use Prim.Native.Nat.{ℕ, _+_, _-_, _*_, _/_, _^_, _≤_, _<_, min, zero-le}
-use native.Mathlib.Nat.{le-div-iff-mul-le, div-lt-iff-lt-mul, div-le-of-le-mul, mul-comm, div-one, one-mul, mul-pos, add-comm}
+use Prim.Native.Nat.{ℕ, _+_, _-_, _*_, _/_, _^_, _≤_, _<_, min}
+use native.Mathlib.Nat.{le-div-iff-mul-le, div-lt-iff-lt-mul, div-one, one-mul, mul-pos, add-comm}
 use native.Mathlib.Omega.{arith}
 use lib.Dec.{T, ltb}
 use lib.IntN.{ℤ, pos, negsuc, negℤ}
 use lib.Pow.{pow-pos}
-use lib.Ieee.{Float, nan, inf, fin, binary64, up, down, fits, isNan, below, lt, le, ofInt, toUnsigned, toSigned}
-use borrow.Author.Tests.{ltb-true, ltb-false, leb-true}
-use lib.Ieee.Fits.{down-pos, ofInt-fits}
+use lib.Ieee.{Float, nan, inf, fin, binary64, up, down, fits, isNan, below, lt, toUnsigned, toSigned}
+use borrow.Author.Tests.{ltb-true, ltb-false}
+use lib.Ieee.Fits.{down-pos}
 use lib.Ieee.Nearest.{div-same}
 use Rattle.ieee.specs.Value.{negative}
-use Rattle.ieee.specs.Rank.{most, unitsOf, placed, rank}
+use Rattle.ieee.proofs.Rank.{unitsOf}
 use Rattle.ieee.proofs.Units.{held, units-fin}
-use Rattle.ieee.proofs.Order.{lt-units, lt-numbers, le-numbers, le-rank}
-use Rattle.ieee.proofs.Exact.{signed-rank}
+use Rattle.ieee.proofs.Order.{lt-units, lt-numbers}
 
 pub part-of : (s : Bool) (m : ℕ) (e : ℤ) → T (fits binary64 (fin s m e)) → m * up e / down e ≡ unitsOf (fin s m e) / 2 ^ 1074
 part-of s m e f = div-same (m * up e) (down e) (unitsOf (fin s m e)) (2 ^ 1074) (down-pos e) (pow-pos 1074) (units-fin s m e (held s m e f))
@@ -102,20 +101,3 @@ module _ (x : Float) (f : T (fits binary64 x)) (p : isNan x ≡ false) where
   pub signed-under : lt (fin true 1 (pos 63)) x ≡ false → negsuc (2 ^ 63 - 1) ≡ toSigned 63 x
   unfolding fits
   signed-under h = let r = reaches-down 63 x f p tt h in sym (signed-part x f ∙ rw (r .0) (ap (λ (n : ℕ). negℤ (pos n)) (full _ (2 ^ 63) (r .1))))
-
--- ---- at most a count, as an index is that is made of a float
-
-at-most : (s : Bool) (c u n l m : ℕ) → placed c c s u ≤ c + n * l → cond s 0 (min (u / l) m) ≤ n
-at-most true c u n l m h = zero-le
-at-most false c u n l m h =
-    let units : u ≤ l * n = subst (λ (k : ℕ). u ≤ k) (mul-comm n l) (omega arith) in
-    let part : u / l ≤ n = div-le-of-le-mul l units in
-    omega arith
-
-pub unsigned-le : (x : Float) (n : ℕ) → T (fits binary64 x) → n ≤ 2 ^ 53 → le x (ofInt binary64 (pos n)) ≡ true → toUnsigned 64 x ≤ n
-unfolding rank
-unsigned-le x n f h l =
-    let w = ofInt binary64 (pos n) in
-    let both = le-numbers x w l in
-    let ranks : rank x ≤ rank w = leb-true (rank x) (rank w) (sym (le-rank x w f (ofInt-fits binary64 (pos n)) (both .0) (both .1)) ∙ l) in
-    subst (λ (k : ℕ). k ≤ n) (sym (unsigned-part x f)) (at-most (negative x) most (unitsOf x) n (2 ^ 1074) _ (subst (λ (k : ℕ). rank x ≤ k) (signed-rank false n h) ranks))

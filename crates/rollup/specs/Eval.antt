@@ -5,7 +5,7 @@ use mathlib.Core.Path.{_≡_}
 use Prim.Native.Nat.{ℕ, _*_, _≤_}
 use lib.ListN.{length}
 use lib.IntN.{ℤ}
-use lib.Ieee.{Float, nan, binary64, toBits}
+use lib.Ieee.{Float, binary64, toBits}
 use Rattle.math.specs.Quantile.{madOf, medianOf, quantileOf}
 use Rattle.math.specs.Deviation.{stddevOf, stdvarOf}
 use Rattle.math.specs.Mode.{modeOf}

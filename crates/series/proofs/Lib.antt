@@ -1,5 +1,4 @@
 pub mod Written
-pub mod Signed
 pub mod Times
 pub mod Accepted
 pub mod Patterns

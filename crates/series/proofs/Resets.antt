@@ -14,7 +14,7 @@ use lib.ListN.{length, getD}
 use lib.Ieee.{Float, nan, inf, fin, binary64, fits, isNan, ofBits, add, sub, mul, neg, lt, le}
 use lib.Ieee.Fits.{add-fits, inf-fits}
 use lib.Ieee.Scale.{finite}
-use Rattle.ieee.specs.Rank.{rank}
+use Rattle.ieee.proofs.Rank.{rank}
 use Rattle.ieee.proofs.Order.{lt-rank, le-rank}
 use Rattle.times.proofs.Order.{by-test}
 use Rattle.series.specs.declared.steps.Counter.{Counter}

@@ -2,8 +2,8 @@
 -- Assumes nothing.
 use mathlib.Core.List.{List}
 use mathlib.Core.Bool.{Bool, true, false, cond}
-use Prim.Native.Nat.{ℕ, _-_}
-use lib.ListN.{length, take, drop}
+use Prim.Native.Nat.{_-_}
+use lib.ListN.{take}
 use lib.IntN.{ℤ, _+ℤ_}
 use lib.Signed.{ltZ}
 use lib.Ieee.{Float, nan, isNan}

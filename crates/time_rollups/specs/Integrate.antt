@@ -1,8 +1,7 @@
 -- The rollup of integrate.rs: each value times the seconds to the next reading, added up from +0.0.
 -- Assumes nothing.
 use mathlib.Core.List.{List}
-use mathlib.Core.Bool.{Bool, cond}
-use Prim.Native.Nat.{ℕ}
+use mathlib.Core.Bool.{cond}
 use lib.ListN.{drop}
 use lib.IntN.{ℤ, pos, _-ℤ_}
 use lib.Ieee.{Float, nan, binary64, add, mul, isNan}

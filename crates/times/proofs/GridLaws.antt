@@ -144,10 +144,6 @@ unfolding gridSize
 size-of-steps s st r h =
     rw (time-is s st r h, offset s (pos (r * natAbs st)), mul-div-cancel r {n = natAbs st} (step-some st h))
 
--- start = end gives one
-pub size-one : (s st : ℤ) → leZ (pos 1) st ≡ true → gridSize s s st ≡ 1
-size-one s st h = rw (time-zero s st) at (size-of-steps s st 0 h)
-
 -- the grid from index a to index b is that part of the grid
 pub grid-cut : {s e st : ℤ} → Spans s e st → (a b : ℕ) → a ≤ b → b < gridSize s e st → grid (timeAt s st a) (timeAt s st b) st ≡ take (b - a + 1) (drop a (grid s e st))
 grid-cut {s} {e} {st} g a b h k =

@@ -1,13 +1,12 @@
 -- Where the later times begin, by index and by time.
 -- Assumes nothing.
-use Prim.Native.Nat.{ℕ, zero, suc, _-_, _≤_, _<_, min, suc-le-suc, zero-le}
+use Prim.Native.Nat.{ℕ, zero, suc, _-_, _≤_, _<_, suc-le-suc, zero-le}
 use native.Mathlib.Omega.{arith}
 use mathlib.Core.Path.{_≡_, refl, sym, ap, _∙_}
 use mathlib.Core.Bool.{true, false, _&&_}
 use mathlib.Core.List.{List, [], _∷_, map}
 use lib.IntN.{ℤ, pos}
-use lib.ListN.{length, getD, take, drop, length-take}
-use lib.Seq.{getD-take}
+use lib.ListN.{length, getD, take, drop}
 use lib.Signed.{leZ, ltZ}
 use lib.Dec.{leb, ltb}
 use borrow.Author.Tests.{leb-true, leb-false, ltb-true, ltb-false}
@@ -30,14 +29,6 @@ pub not-falling-drop : (k : ℕ) {ts : List ℤ} → NotFalling ts → NotFallin
 not-falling-drop zero n = n
 not-falling-drop (suc k) {ts = []} n = n
 not-falling-drop (suc k) {ts = u ∷ ts} n = not-falling-drop k (not-falling-tail n)
-
-pub not-falling-take : (k : ℕ) {ts : List ℤ} → NotFalling ts → NotFalling (take k ts)
-not-falling-take k {ts} n =
-    record {
-      next = λ i h.
-          let l : suc i < min k (length ts) = rw (length-take k ts) at h in
-          rw (getD-take k ts i (pos 0) (omega arith), getD-take k ts (suc i) (pos 0) (omega arith)) (n .next i (omega arith));
-    }
 
 -- no later index has a time below
 pub not-falling-le : {ts : List ℤ} → NotFalling ts → (i j : ℕ) → i ≤ j → j < length ts → leZ (getD ts i (pos 0)) (getD ts j (pos 0)) ≡ true

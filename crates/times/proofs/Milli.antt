@@ -1,4 +1,4 @@
--- The order, the sums and the differences of milliseconds, carried to ℕ by `lift`.
+-- The order, the sums and the differences of milliseconds, carried to ℕ by `lift`: `omega` reads ℕ only.
 -- Whoever has `SFits w64` of two numbers (of a parameter `x` it is `c .fits .x`) turns a test or an operation on them into a fact that `omega` reads.
 -- Assumes nothing.
 use Prim.Native.Nat.{ℕ, zero, suc, _+_, _-_, _^_, _≤_, _<_}
@@ -8,12 +8,21 @@ use mathlib.Core.Bool.{Bool, true, false, _&&_, and-true, false≢true}
 use borrow.Author.Tests.{lt-ltb, le-ltb, le-leb, lt-leb, ltb-true, ltb-false, leb-true, leb-false}
 use lib.Dec.{T, ltb, leb, ltb→lt, leb·zero, leb·suc-zero, leb·suc-suc}
 use lib.IntN.{ℤ, pos, negsuc, negℤ, natAbs, subℕ, _+ℤ_, _-ℤ_}
-use lib.Signed.{ltZ, leZ}
+use lib.Signed.{ltZ, leZ, mag}
 use mir.Syntax.{w64}
 use mir.Val.{SFits, toZ, ofZ}
 use mir.Facts.{toZ-ofZ}
-use Rattle.times.specs.Milli.{Within, lift}
+use Rattle.times.specs.Milli.{Within}
 use Rattle.times.proofs.Order.{by-test, same-leb}
+
+-- t + 2^63, which is no negative number for any `i64`
+unfoldable pub lift : ℤ → ℕ
+lift (pos n) = 2 ^ 63 + n
+lift (negsuc n) = 2 ^ 63 - suc n
+
+-- what the machine reads back from the bits of an `i64` is the number
+pub read-back : (t : ℤ) → mag t < 2 ^ 63 → toZ w64 (ofZ w64 t) ≡ t
+read-back t h = toZ-ofZ (record { sfits = h })
 
 -- ---- the order
 
@@ -102,7 +111,7 @@ lift-sub {a = negsuc m} {b = negsuc n} f g h = omega (arith, lift-subℕ (suc n)
 natAbs-subℕ : (x y : ℕ) → natAbs (subℕ x y) ≤ x + y
 natAbs-subℕ x y = by-test (ltb x y) (λ e. rw e (omega (arith, ltb-true x y e))) (λ e. rw e (omega arith))
 
-natAbs-add : (a b : ℤ) → natAbs (a +ℤ b) ≤ natAbs a + natAbs b
+pub natAbs-add : (a b : ℤ) → natAbs (a +ℤ b) ≤ natAbs a + natAbs b
 natAbs-add (pos m) (pos n) = omega arith
 natAbs-add (pos m) (negsuc n) = natAbs-subℕ m (suc n)
 natAbs-add (negsuc m) (pos n) = omega (arith, natAbs-subℕ n (suc m))
@@ -113,11 +122,14 @@ natAbs-neg (pos zero) = refl
 natAbs-neg (pos (suc n)) = refl
 natAbs-neg (negsuc n) = refl
 
+pub natAbs-sub : (a b : ℤ) → natAbs (a -ℤ b) ≤ natAbs a + natAbs b
+natAbs-sub a b = omega (arith, natAbs-add a (negℤ b), natAbs-neg b)
+
 pub within-add : {j k : ℕ} {a b : ℤ} → Within j a → Within k b → Within (j + k) (a +ℤ b)
 within-add {a} {b} f g = record { size = omega (arith, natAbs-add a b) }
 
 pub within-sub : {j k : ℕ} {a b : ℤ} → Within j a → Within k b → Within (j + k) (a -ℤ b)
-within-sub {a} {b} f g = record { size = omega (arith, natAbs-add a (negℤ b), natAbs-neg b) }
+within-sub {a} {b} f g = record { size = omega (arith, natAbs-sub a b) }
 
 -- between two numbers within a limit
 pub within-between : {k : ℕ} {a b t : ℤ} → Within k a → Within k b → leZ a t ≡ true → leZ t b ≡ true → Within k t

@@ -1,19 +1,16 @@
 -- Times in range: their sums and differences fit an i64.
 -- Assumes nothing.
-use Prim.Native.Nat.{ℕ, zero, suc, _+_, _-_, _≤_, _<_, _^_}
-use mathlib.Core.Path.{_≡_, refl, sym, subst}
+use Prim.Native.Nat.{ℕ, _+_, _-_, _≤_, _<_, _^_}
+use mathlib.Core.Path.{_≡_}
 use native.Mathlib.Omega.{arith}
-use mathlib.Core.Bool.{Bool, true, false, cond}
-use borrow.Author.Tests.{ltb-true}
-use lib.Dec.{ltb}
-use lib.IntN.{ℤ, pos, negsuc, negℤ, natAbs, subℕ, _+ℤ_, _-ℤ_}
+use lib.IntN.{ℤ, pos, negsuc, natAbs, _+ℤ_, _-ℤ_}
 use lib.Signed.{mag}
 use mir.Syntax.{w64}
 use mir.Val.{SFits, toZ, ofZ}
-use mir.Facts.{toZ-ofZ}
 use mathlib.Core.List.{List}
 use lib.ListN.{length, getD}
-use Rattle.window.specs.Window.{firstOr, lastOr, secondsF}
+use Rattle.times.proofs.Milli.{natAbs-add, natAbs-sub, read-back}
+use Rattle.window.specs.Window.{firstOr, lastOr}
 use Rattle.window.specs.Types.{InRange, AllInRange, Ranged}
 use Rattle.window.specs.declared.types.RollupFuncArg.{RollupFuncArg}
 use Rattle.window.proofs.Window.{first-at, last-at}
@@ -22,37 +19,11 @@ mag-≤ : (z : ℤ) → mag z ≤ natAbs z
 mag-≤ (pos n) = omega arith
 mag-≤ (negsuc n) = omega arith
 
-neg-size : (z : ℤ) → natAbs (negℤ z) ≡ natAbs z
-neg-size (pos zero) = refl
-neg-size (pos (suc n)) = refl
-neg-size (negsuc n) = refl
-
-sub-size : (a b : ℕ) → natAbs (subℕ a b) ≤ a + b
-sub-size a b = by (ltb a b) refl where
-  by : (t : Bool) → ltb a b ≡ t → natAbs (cond t (negsuc (b - suc a)) (pos (a - b))) ≤ a + b
-  by true e = omega (arith, ltb-true a b e)
-  by false e = omega arith
-
--- the size of a sum
-pub add-size : (a b : ℤ) → natAbs (a +ℤ b) ≤ natAbs a + natAbs b
-add-size (pos a) (pos b) = omega arith
-add-size (pos a) (negsuc b) = sub-size a (suc b)
-add-size (negsuc a) (pos b) = omega (arith, sub-size b (suc a))
-add-size (negsuc a) (negsuc b) = omega arith
-
--- the size of a difference
-pub difference-size : (a b : ℤ) → natAbs (a -ℤ b) ≤ natAbs a + natAbs b
-difference-size a b = omega (arith, add-size a (negℤ b), neg-size b)
-
--- what the machine reads back from a time's bits is the time
-pub read-back : (t : ℤ) → mag t < 2 ^ 63 → toZ w64 (ofZ w64 t) ≡ t
-read-back t h = toZ-ofZ (record { sfits = h })
-
 pub sum-fits : (a b : ℤ) → natAbs a + natAbs b < 2 ^ 63 → SFits w64 (a +ℤ b)
-sum-fits a b h = record { sfits = omega (arith, mag-≤ (a +ℤ b), add-size a b) }
+sum-fits a b h = record { sfits = omega (arith, mag-≤ (a +ℤ b), natAbs-add a b) }
 
 pub difference-fits : (a b : ℤ) → natAbs a + natAbs b < 2 ^ 63 → SFits w64 (a -ℤ b)
-difference-fits a b h = record { sfits = omega (arith, mag-≤ (a -ℤ b), difference-size a b) }
+difference-fits a b h = record { sfits = omega (arith, mag-≤ (a -ℤ b), natAbs-sub a b) }
 
 -- times in range are as they are read back, and may be subtracted
 pub back : (t : ℤ) → InRange t → toZ w64 (ofZ w64 t) ≡ t

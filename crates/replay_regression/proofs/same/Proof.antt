@@ -4,12 +4,12 @@ use Prim.Native.Nat.{_-_, _^_}
 use mathlib.Core.Path.{sym, _∙_}
 use native.Mathlib.Omega.{arith}
 use borrow.Author.Needs.{needs}
-use lib.IntN.{ℤ, pos, negsuc}
+use lib.IntN.{pos, negsuc}
 use mir.Syntax.{w64}
 use mir.Val.{SFits, ofZ, toZ}
 use mir.ValLaws.{toZ-ofZ}
-use Rattle.times.specs.Milli.{Within, lift}
-use Rattle.times.proofs.Milli.{lift-within, lt-left, within-fits, within-sub}
+use Rattle.times.specs.Milli.{Within}
+use Rattle.times.proofs.Milli.{lift, lift-within, lt-left, within-fits, within-sub}
 use Rattle.config.proofs.Distances.{within}
 use Rattle.replay_regression.proofs.same.Statement.{statement}
 use Rattle.replay_regression.proofs.same.Tie as tie

@@ -1,7 +1,6 @@
 -- `change_rollups::delta::first_step` meets its contract: the tests choose the value after the first.
 -- Assumes nothing.
 use borrow.Author.Needs.{needs}
-use native.Mathlib.Omega.{arith}
 use borrow.Author.Tests.{lt-ltb, le-ltb}
 use lib.Ieee.{nan}
 use Rattle.window.proofs.Window.{length-floats, getD-floats}

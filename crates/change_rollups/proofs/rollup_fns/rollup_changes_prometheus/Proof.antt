@@ -1,6 +1,5 @@
 -- `change_rollups::rollup_fns::rollup_changes_prometheus` meets its contract: the first value is compared with the others.
 -- Assumes nothing.
-use mathlib.Core.Path.{_≡_, refl}
 use borrow.Author.Needs.{needs}
 use Rattle.window.proofs.Window.{no-values, some-values, rest-values}
 use Rattle.change_rollups.specs.RollupFns.{changesPrometheusOf}

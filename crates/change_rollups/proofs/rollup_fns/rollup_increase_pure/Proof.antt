@@ -1,7 +1,6 @@
 -- `change_rollups::rollup_fns::rollup_increase_pure` meets its contract: the tests choose what is taken from the last value.
 -- Assumes nothing.
 use borrow.Author.Needs.{needs}
-use mathlib.Core.Path.{refl}
 use Rattle.window.proofs.Window.{no-values, some-values}
 use Rattle.change_rollups.specs.RollupFns.{increasePureOf}
 use Rattle.change_rollups.proofs.rollup_fns.rollup_increase_pure.Statement.{statement}

@@ -6,7 +6,6 @@ use mir.Facts.{toZ-ofZ}
 use mir.Syntax.{w64}
 use mir.Val.{SFits}
 use Rattle.config.specs.Settle.{Settlement, settleOf, settledReply}
-use Rattle.config.specs.declared.settings.RollupConfig.{RollupConfig}
 use Rattle.series.specs.Answers.{Outcome, Reply, outcome}
 use Rattle.harzoulin.specs.Settle.{configOf, settledTo}
 use Rattle.harzoulin.proofs.Crossed.{crosses}

@@ -7,9 +7,9 @@ use Prim.Native.Nat.{_≤_}
 use lib.ListN.{length}
 use lib.IntN.{ℤ}
 use lib.Signed.{ltZ}
+use Rattle.times.proofs.Milli.{read-back}
 use Rattle.window.specs.Window.{upToLast}
 use Rattle.window.proofs.Searches.{up-to-within}
-use Rattle.window.proofs.Times.{read-back}
 use Rattle.time_rollups.specs.Candlestick.{candlestick}
 use Rattle.time_rollups.proofs.candlestick.get_candlestick_values.Statement.{statement}
 use Rattle.time_rollups.proofs.candlestick.get_candlestick_values.Tie as tie

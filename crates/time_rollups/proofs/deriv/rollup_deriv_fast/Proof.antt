@@ -2,8 +2,9 @@
 -- Assumes nothing.
 use borrow.Author.Needs.{needs}
 use borrow.Author.Tests.{lt-ltb, le-ltb}
+use Rattle.times.proofs.Milli.{read-back}
 use Rattle.window.proofs.Window.{length-floats, no-values, some-values}
-use Rattle.window.proofs.Times.{back, read-back, first-ranged}
+use Rattle.window.proofs.Times.{back, first-ranged}
 use Rattle.time_rollups.specs.Deriv.{derivFastOf}
 use Rattle.time_rollups.proofs.deriv.rollup_deriv_fast.Statement.{statement}
 use Rattle.time_rollups.proofs.deriv.rollup_deriv_fast.Tie as tie

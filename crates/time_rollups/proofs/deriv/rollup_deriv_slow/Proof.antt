@@ -1,7 +1,6 @@
 -- `time_rollups::deriv::rollup_deriv_slow` meets its contract: it is the slope of the line that math gives.
 -- Assumes nothing.
 use mathlib.Core.Path.{ap}
-use borrow.Author.Needs.{needs}
 use Rattle.math.specs.declared.regression.Line.{Line}
 use Rattle.window.specs.Window.{floats}
 use Rattle.window.proofs.Times.{back, fits-after}

@@ -2,8 +2,9 @@
 -- Assumes nothing.
 use borrow.Author.Needs.{needs}
 use lib.IntN.{pos}
+use Rattle.times.proofs.Milli.{read-back}
 use Rattle.window.specs.Window.{lastOr}
-use Rattle.window.proofs.Times.{back, read-back, apart, last-in}
+use Rattle.window.proofs.Times.{back, apart, last-in}
 use Rattle.time_rollups.specs.Deriv.{slopeFrom}
 use Rattle.time_rollups.proofs.deriv.slope.Statement.{statement}
 use Rattle.time_rollups.proofs.deriv.slope.Tie as tie

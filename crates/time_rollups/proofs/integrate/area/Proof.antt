@@ -1,7 +1,6 @@
 -- `time_rollups::integrate::area` meets its contract: it folds `extend` over the readings.
 -- Assumes nothing.
 use borrow.Author.Needs.{needs}
-use mathlib.Core.Path.{_≡_}
 use native.Mathlib.Omega.{arith}
 use Prim.Native.Nat.{_-_, _≤_, _^_}
 use lib.ListN.{length}
@@ -9,10 +8,10 @@ use lib.IntN.{natAbs}
 use mir.Syntax.{w64}
 use mir.Val.{toZ}
 use mir.Facts.{toZ-ofZ}
+use Rattle.times.proofs.Milli.{read-back}
 use Rattle.window.specs.Window.{floats, readings, foldFrom, zeroF}
-use Rattle.window.proofs.Times.{read-back}
 use Rattle.window.proofs.Folds.{Folded, start, turn, reading, done-readings}
-use Rattle.time_rollups.specs.Integrate.{Area, areaAt, areaFrom, extend}
+use Rattle.time_rollups.specs.Integrate.{areaAt, areaFrom, extend}
 use Rattle.time_rollups.proofs.integrate.area.Statement.{statement}
 use Rattle.time_rollups.proofs.integrate.area.Tie as tie
 

@@ -7,10 +7,11 @@ use lib.ListN.{length-drop}
 use lib.Seq.{getD-drop}
 use lib.IntN.{pos}
 use mir.Facts.{toZ-ofZ}
+use Rattle.times.proofs.Milli.{natAbs-sub, read-back}
 use Rattle.window.specs.Window.{firstOr}
 use Rattle.window.specs.Types.{InRange}
 use Rattle.window.proofs.Window.{no-values, some-values, rest-values}
-use Rattle.window.proofs.Times.{back, read-back, difference-size, difference-fits, first-ranged}
+use Rattle.window.proofs.Times.{back, difference-fits, first-ranged}
 use Rattle.time_rollups.specs.Integrate.{integrateOf}
 use Rattle.time_rollups.proofs.integrate.rollup_integrate.Statement.{statement}
 use Rattle.time_rollups.proofs.integrate.rollup_integrate.Tie as tie
@@ -52,7 +53,7 @@ area-requires-2 c κs =
     let r = c .before .before .before .before .before .before .args .rfa in
     let h = c .before .before .before .before .before .before .pre .0 in (
       simp (back (r .«curr_timestamp») (h .curr), back (r .window) (h .window), toZ-ofZ (difference-fits (r .«curr_timestamp») (r .window) (omega (arith, h .curr, h .window))))
-          (omega (arith, difference-size (r .«curr_timestamp») (r .window), h .curr, h .window)),
+          (omega (arith, natAbs-sub (r .«curr_timestamp») (r .window), h .curr, h .window)),
       (h .times, (rw (back (r .«curr_timestamp») (h .curr)) (h .curr), c .before .before .before .before .before .before .pre .1)),
     )
 

@@ -2,9 +2,10 @@
 -- Assumes nothing.
 use borrow.Author.Needs.{needs}
 use lib.IntN.{pos}
+use Rattle.times.proofs.Milli.{read-back}
 use Rattle.window.specs.Window.{lastOr}
 use Rattle.window.proofs.Window.{none, some}
-use Rattle.window.proofs.Times.{back, read-back, apart, last-ranged}
+use Rattle.window.proofs.Times.{back, apart, last-ranged}
 use Rattle.time_rollups.specs.RollupFns.{lagOf}
 use Rattle.time_rollups.proofs.rollup_fns.rollup_lag.Statement.{statement}
 use Rattle.time_rollups.proofs.rollup_fns.rollup_lag.Tie as tie

@@ -3,9 +3,10 @@
 use borrow.Author.Needs.{needs}
 use lib.IntN.{pos}
 use borrow.Author.Tests.{lt-ltb, le-ltb}
+use Rattle.times.proofs.Milli.{read-back}
 use Rattle.window.specs.Window.{firstOr, lastOr}
 use Rattle.window.proofs.Window.{none, some}
-use Rattle.window.proofs.Times.{back, read-back, apart, first-ranged, last-ranged}
+use Rattle.window.proofs.Times.{back, apart, first-ranged, last-ranged}
 use Rattle.time_rollups.specs.RollupFns.{lifetimeOf}
 use Rattle.time_rollups.proofs.rollup_fns.rollup_lifetime.Statement.{statement}
 use Rattle.time_rollups.proofs.rollup_fns.rollup_lifetime.Tie as tie

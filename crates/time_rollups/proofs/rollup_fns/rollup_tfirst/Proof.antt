@@ -1,9 +1,8 @@
 -- `time_rollups::rollup_fns::rollup_tfirst` meets its contract: the first time is given in seconds.
 -- Assumes nothing.
-use mathlib.Core.Path.{_≡_, refl}
 use borrow.Author.Needs.{needs}
+use Rattle.times.proofs.Milli.{read-back}
 use Rattle.window.proofs.Window.{none, some}
-use Rattle.window.proofs.Times.{read-back}
 use Rattle.time_rollups.specs.RollupFns.{tfirstOf}
 use Rattle.time_rollups.proofs.rollup_fns.rollup_tfirst.Statement.{statement}
 use Rattle.time_rollups.proofs.rollup_fns.rollup_tfirst.Tie as tie

@@ -4,8 +4,8 @@ use borrow.Author.Needs.{needs}
 use mathlib.Core.Path.{_≡_}
 use native.Mathlib.Omega.{arith}
 use lib.IntN.{pos}
+use Rattle.times.proofs.Milli.{read-back}
 use Rattle.window.proofs.Window.{no-values, some-values, pos-eqb, first-at}
-use Rattle.window.proofs.Times.{read-back}
 use Rattle.time_rollups.specs.RollupFns.{tlastChangeOf}
 use Rattle.time_rollups.proofs.rollup_fns.rollup_tlast_change.Statement.{statement}
 use Rattle.time_rollups.proofs.rollup_fns.rollup_tlast_change.Tie as tie

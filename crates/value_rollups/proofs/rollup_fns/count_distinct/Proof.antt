@@ -1,7 +1,7 @@
 -- `value_rollups::rollup_fns::count_distinct` meets its contract: it folds `dedup` over the sorted values, and counts at most one for each.
 -- Assumes nothing.
 use mathlib.Core.Logic.{⊎-elim}
-use mathlib.Core.Path.{ap, sym}
+use mathlib.Core.Path.{ap}
 use native.Mathlib.Omega.{arith}
 use Prim.Native.Nat.{ℕ, _-_, _≤_}
 use lib.ListN.{length, drop, getD}

@@ -1,6 +1,6 @@
 -- `value_rollups::rollup_fns::rollup_absent` meets its contract: the test decides.
 -- Assumes nothing.
-use mathlib.Core.Path.{_≡_, refl}
+use mathlib.Core.Path.{refl}
 use borrow.Author.Needs.{needs}
 use Rattle.window.proofs.Window.{no-values, some-values}
 use Rattle.value_rollups.specs.RollupFns.{absentOf}

@@ -1,6 +1,5 @@
 -- `value_rollups::rollup_fns::rollup_avg` meets its contract: it divides what `total` gives by the count.
 -- Assumes nothing.
-use mathlib.Core.Path.{_≡_, refl}
 use borrow.Author.Needs.{needs}
 use Rattle.window.proofs.Window.{no-values, some-values, length-floats}
 use Rattle.value_rollups.specs.RollupFns.{avgOf}

@@ -1,6 +1,5 @@
 -- `value_rollups::rollup_fns::rollup_count` meets its contract: the values are as many as their patterns.
 -- Assumes nothing.
-use mathlib.Core.Path.{_≡_, refl}
 use borrow.Author.Needs.{needs}
 use Rattle.window.proofs.Window.{no-values, some-values, length-floats}
 use Rattle.value_rollups.specs.RollupFns.{countOf}

@@ -1,6 +1,5 @@
 -- `value_rollups::rollup_fns::rollup_max` meets its contract: it folds `noLesser` over the values, from the first.
 -- Assumes nothing.
-use mathlib.Core.Path.{_≡_, _∙_}
 use mathlib.Core.Logic.{⊎-elim}
 use Prim.Native.Nat.{_-_}
 use lib.ListN.{length, drop}

@@ -1,9 +1,9 @@
 -- `value_rollups::rollup_fns::rollup_rate_over_sum` meets its contract: it divides what `total` gives by the seconds of the window.
 -- Assumes nothing.
-use mathlib.Core.Path.{_≡_, refl}
+use mathlib.Core.Path.{refl}
 use borrow.Author.Needs.{needs}
+use Rattle.times.proofs.Milli.{read-back}
 use Rattle.window.proofs.Window.{no-values, some-values}
-use Rattle.window.proofs.Times.{read-back}
 use Rattle.value_rollups.specs.RollupFns.{rateOverSumOf}
 use Rattle.value_rollups.proofs.rollup_fns.rollup_rate_over_sum.Statement.{statement}
 use Rattle.value_rollups.proofs.rollup_fns.rollup_rate_over_sum.Tie as tie

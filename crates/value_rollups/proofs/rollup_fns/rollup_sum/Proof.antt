@@ -1,6 +1,5 @@
 -- `value_rollups::rollup_fns::rollup_sum` meets its contract: it is what `total` gives.
 -- Assumes nothing.
-use mathlib.Core.Path.{_≡_, refl}
 use borrow.Author.Needs.{needs}
 use Rattle.window.proofs.Window.{no-values, some-values}
 use Rattle.value_rollups.specs.RollupFns.{sumOf}

@@ -1,6 +1,5 @@
 -- `value_rollups::rollup_fns::rollup_sum2` meets its contract: it folds the squares' addition over the values.
 -- Assumes nothing.
-use mathlib.Core.Path.{_≡_}
 use Prim.Native.Nat.{_-_}
 use lib.ListN.{length}
 use borrow.Author.Needs.{needs}

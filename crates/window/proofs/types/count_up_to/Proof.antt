@@ -1,14 +1,13 @@
 -- `window::types::count_up_to` meets its contract: the readings from i on are not below t, so those before i decide.
 -- Assumes nothing.
-use mathlib.Core.Path.{_∙_, sym}
 use borrow.Author.Needs.{needs}
 use lib.IntN.{ℤ, pos}
 use lib.Signed.{ltZ}
 use mir.Syntax.{w64}
 use mir.Val.{toZ}
 use mir.Facts.{toZ-ofZ}
+use Rattle.times.proofs.Milli.{read-back}
 use Rattle.window.proofs.Searches.{Undecided, search-starts, search-finds, search-goes-on, search-ends}
-use Rattle.window.proofs.Times.{read-back}
 use Rattle.window.proofs.types.count_up_to.Statement.{statement}
 use Rattle.window.proofs.types.count_up_to.Tie as tie
 

@@ -2,8 +2,8 @@
 -- Assumes nothing.
 use mathlib.Core.Path.{_∙_, sym}
 use borrow.Author.Needs.{needs}
+use Rattle.times.proofs.Milli.{read-back}
 use Rattle.window.proofs.Window.{first-none, first-at}
-use Rattle.window.proofs.Times.{read-back}
 use Rattle.window.proofs.types.first_time.Statement.{statement}
 use Rattle.window.proofs.types.first_time.Tie as tie
 

@@ -1,5 +1,6 @@
 -- The order of binary64 as an order of ℕ. `unitsOf` is a value's size in units of 2 ^ -1074, the smallest value above zero: a whole number for
 -- each value of the format. `rank` puts the values on a line by their units, with the zeros in the middle. `totalRank` parts the zeros, and puts NaN on top.
+-- Assumes nothing.
 use Prim.Native.Nat.{ℕ, suc, _+_, _-_, _*_, _/_, _^_}
 use mathlib.Core.Bool.{Bool, true, false}
 use lib.Ieee.{Float, nan, inf, fin, up, down}
