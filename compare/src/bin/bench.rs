@@ -1,8 +1,10 @@
-//! Times of the port, best of several; build it with `--profile timed`.
-//! `bench prepare [READINGS]`: each preparing step beside the Rust's pre-function on the same
-//! readings. The port's time includes its checks of the series; the Rust has none.
-//! `bench run [READINGS]`: the port's run of each rollup, the whole call, beside the Rust's
-//! `do_internal`, over a few long windows and over many short ones.
+//! Times of the port beside the Rust, in milliseconds, best of several; build it with `--profile
+//! timed`. A table for each kind of series. `fair` is the Rust's time, charged with the work of the
+//! port's call that the Rust does not do, over the port's time: above 1 the port is ahead.
+//! `bench prepare [READINGS]`: each preparing step beside a copy and the Rust's pre-function, which is
+//! charged with the port's checks of the series.
+//! `bench run [READINGS]`: the port's run of each rollup beside the Rust's `do_internal`, over a few
+//! long windows and over many short ones. The Rust is charged with checks, copy and clearing.
 //! `bench growth [READINGS]`: nanoseconds a reading of some runs, from 10,000 readings up to so many.
 
 use std::process::exit;
@@ -10,13 +12,16 @@ use std::time::Instant;
 
 use compare::call::{Call, Case, Outcome};
 use compare::inputs::cases::average;
-use compare::inputs::series::counter;
+use compare::inputs::series::{counter, KINDS};
 use compare::judge::{self, STEPS};
 use compare::port;
 use original::exposed::{self, Rollup, Settings, ROLLUPS};
 
 const ROUNDS: usize = 7;
 const DAY: i64 = 86_400_000;
+
+/// Output times and the window: a few long windows, many short ones.
+const WINDOWS: [(i64, i64); 2] = [(1_000, DAY), (200_000, 1_800_000)];
 
 fn main() {
     let words: Vec<String> = std::env::args().skip(1).collect();
@@ -33,90 +38,137 @@ fn main() {
     }
 }
 
+/// A table's line: the port's time, and the Rust's where it does not panic.
+struct Line {
+    name: String,
+    port: f64,
+    rust: Option<f64>,
+}
+
+/// The lines of one call, with the time of the work that the Rust is charged with.
+struct Timed {
+    charge: f64,
+    lines: Vec<Line>,
+}
+
+impl Line {
+    /// The Rust's time with the charge, over the port's.
+    fn fair(&self, charge: f64) -> Option<f64> {
+        self.rust.map(|rust| (rust + charge) / self.port)
+    }
+
+    fn cells(&self, charge: f64) -> String {
+        let or = |cell: Option<f64>, none: &str| {
+            cell.map_or(none.to_string(), |time| format!("{time:.2}"))
+        };
+        format!("{:.2} | {} | {} |", self.port, or(self.rust, "panics"), or(self.fair(charge), ""))
+    }
+}
+
+impl Timed {
+    /// The sum of the lines that have both times, of which so many are charged.
+    fn all(&self) -> (Line, f64) {
+        let both = || self.lines.iter().filter_map(|line| Some((line.port, line.rust?)));
+        let port = both().map(|(port, _)| port).sum();
+        let rust = Some(both().map(|(_, rust)| rust).sum());
+        (Line { name: "all".to_string(), port, rust }, self.charge * both().count() as f64)
+    }
+}
+
+/// A table: a line for each name, with the times of each call.
+fn table(title: &str, readings: usize, first: &str, calls: &[Timed]) {
+    println!("{readings} readings, {title}, best of {ROUNDS}\n");
+    println!("| {first} |{}", " port | Rust | fair |".repeat(calls.len()));
+    println!("|---|{}", "---|---|---|".repeat(calls.len()));
+    for (i, line) in calls[0].lines.iter().enumerate() {
+        let cells: Vec<_> = calls.iter().map(|call| call.lines[i].cells(call.charge)).collect();
+        println!("| {} | {}", line.name, cells.join(" "));
+    }
+    let sums = calls.iter().map(Timed::all);
+    let cells: Vec<_> = sums.map(|(sum, charge)| sum.cells(charge)).collect();
+    println!("| all | {}\n", cells.join(" "));
+    for call in calls {
+        let fair = || call.lines.iter().filter_map(|line| line.fair(call.charge));
+        let ahead = fair().filter(|ratio| *ratio >= 1.0).count();
+        println!("charged {:.2} ms; ahead on {ahead} of {}", call.charge, fair().count());
+    }
+    println!();
+}
+
 fn prepare(readings: usize) {
-    let (timestamps, values) = counter(readings);
-    let patterns: Vec<u64> = values.iter().map(|v| v.to_bits()).collect();
-    let (mut prepared, mut copy) = (vec![1; readings], vec![1.0; readings]);
-    println!("{readings} readings, best of {ROUNDS}");
-    for (step, name) in STEPS.iter().enumerate() {
-        let ours = best(|| {
-            let mut index = 1;
-            let start = Instant::now();
-            let number =
-                port::prepare(&timestamps, &patterns, step as u32, &mut prepared, &mut index);
-            assert_eq!((number, index), (0, 0));
-            start.elapsed().as_secs_f64()
-        });
-        let theirs = best(|| {
-            // The pre-function works in place; step none is a copy.
-            let copied = Instant::now();
-            copy.copy_from_slice(&values);
-            let start = if *name == "none" { copied } else { Instant::now() };
-            judge::prepare(step, &timestamps, &mut copy);
-            start.elapsed().as_secs_f64()
-        });
-        let (ours, theirs) = (ours * 1e3, theirs * 1e3);
-        println!(
-            "{name:>9}: port with its checks {ours:.1} ms, Rust {theirs:.1} ms, ratio {:.2}",
-            ours / theirs
-        );
+    for (title, make) in KINDS {
+        let (timestamps, values) = make(readings);
+        let patterns: Vec<u64> = values.iter().map(|v| v.to_bits()).collect();
+        let (mut prepared, mut copy) = (vec![1; readings], vec![1.0; readings]);
+        let mut port = |step: usize, room: usize, answer: u64| {
+            best(|| {
+                ms(|| {
+                    let (mut index, slice) = (1, &mut prepared[..room]);
+                    let number =
+                        port::prepare(&timestamps, &patterns, step as u32, slice, &mut index);
+                    assert_eq!((number, index), (answer, 0));
+                })
+            })
+        };
+        // A prepared slice that is too short is refused after the checks.
+        let charge = port(0, readings - 1, 13);
+        let line = |(step, name): (usize, &&str)| {
+            let rust = best(|| {
+                ms(|| {
+                    copy.copy_from_slice(&values);
+                    judge::prepare(step, &timestamps, &mut copy);
+                })
+            });
+            Line { name: name.to_string(), port: port(step, readings, 0), rust: Some(rust) }
+        };
+        let lines = STEPS.iter().enumerate().map(line).collect();
+        table(title, readings, "step", &[Timed { charge, lines }]);
     }
 }
 
 fn run(readings: usize) {
     judge::quiet();
-    let series = counter(readings);
-    let (timestamps, values) = &series;
-    let span = timestamps[readings - 1] - timestamps[0];
-    println!(
-        "{readings} readings, best of {ROUNDS}; port ms, Rust ms, ratio, ratio of the figures \
-         alone: (port - fixed part) / Rust"
-    );
-    for (outputs, window) in [(1_000, DAY), (200_000, 1_800_000)] {
-        let (start, step) = (timestamps[0], span / outputs);
-        let end = start + step * (outputs - 1);
-        let mut case =
-            average(&series, Settings { start, end, step, window, ..Settings::default() });
-        let mut outcome = Outcome::before(&case);
-        let fixed = fixed(&case, &mut outcome);
-        println!("{outputs} outputs, windows of {} minutes", window / 60_000);
-        println!("{:>22}: {fixed:.2}", "fixed part");
-        let line = |name: &str, ours: f64, fixed: f64, theirs: f64| {
-            let (whole, alone) = (ours / theirs, (ours - fixed) / theirs);
-            println!("{name:>22}: {ours:.1} {theirs:.1} {whole:.2} {alone:.2}");
-        };
-        let (mut compared, mut all_ours, mut all_theirs) = (0.0, 0.0, 0.0);
-        for (number, (name, _)) in ROLLUPS.iter().enumerate() {
-            case.rollup = number as u32;
-            let ours = port_ms(&case, &mut outcome);
-            let theirs = || rust(&case, values);
-            if judge::caught(theirs).is_none() {
-                println!("{name:>22}: {ours:.1}, and the Rust panics");
-                continue;
-            }
-            let theirs = best(|| ms(theirs));
-            line(name, ours, fixed, theirs);
-            compared += 1.0;
-            all_ours += ours;
-            all_theirs += theirs;
-        }
-        line("all", all_ours, compared * fixed, all_theirs);
-        // A caller of the Rust owns a copy of the values before a pre-function may change them.
-        let mut copy = values.clone();
-        case.rollup = 0;
-        for (pre, name) in STEPS.iter().enumerate().skip(1) {
-            case.pre = pre as u32;
-            let ours = port_ms(&case, &mut outcome);
-            let theirs = best(|| {
-                ms(|| {
-                    copy.copy_from_slice(values);
-                    judge::prepare(pre, timestamps, &mut copy);
-                    rust(&case, &copy)
-                })
-            });
-            line(&format!("avg after {name}"), ours, fixed, theirs);
-        }
+    for (title, make) in KINDS {
+        let series = make(readings);
+        let calls = WINDOWS.map(|(outputs, window)| {
+            let (start, step) = (series.0[0], (series.0[readings - 1] - series.0[0]) / outputs);
+            let end = start + step * (outputs - 1);
+            let case =
+                average(&series, Settings { start, end, step, window, ..Settings::default() });
+            runs(case, &series.1)
+        });
+        table(title, readings, "rollup", &calls);
     }
+}
+
+/// The times of each rollup, and of avg after each step.
+fn runs(mut case: Case, values: &[f64]) -> Timed {
+    let mut outcome = Outcome::before(&case);
+    let charge = fixed(&case, &mut outcome);
+    let mut lines = vec![];
+    for (number, (name, _)) in ROLLUPS.iter().enumerate() {
+        case.rollup = number as u32;
+        let port = port_ms(&case, &mut outcome);
+        let rust = || rust(&case, values);
+        let rust = judge::caught(rust).map(|_| best(|| ms(rust)));
+        lines.push(Line { name: name.to_string(), port, rust });
+    }
+    case.rollup = 0;
+    // The charge has a copy, so that the one which a pre-function changes is not timed.
+    let mut copy = values.to_vec();
+    for (pre, name) in STEPS.iter().enumerate().skip(1) {
+        case.pre = pre as u32;
+        let port = port_ms(&case, &mut outcome);
+        let rust = best(|| {
+            copy.copy_from_slice(values);
+            ms(|| {
+                judge::prepare(pre, &case.timestamps, &mut copy);
+                rust(&case, &copy)
+            })
+        });
+        lines.push(Line { name: format!("avg after {name}"), port, rust: Some(rust) });
+    }
+    Timed { charge, lines }
 }
 
 /// What the port does besides figures and the Rust does not: the checks of the series, the copy into

@@ -63,15 +63,41 @@ pub fn series(rng: &mut Rng, n: usize) -> (Vec<i64>, Vec<f64>) {
     (times(rng, n), floats::run(rng, n))
 }
 
-/// A counter read once a minute, with jitter, gaps and restarts.
+/// The kinds of series that times are taken on, by name.
+pub const KINDS: [(&str, fn(usize) -> (Vec<i64>, Vec<f64>)); 3] =
+    [("a counter", counter), ("a climate probe", probe), ("values in no order", scattered)];
+
+/// A counter with restarts: nearly every window stands in order.
 pub fn counter(readings: usize) -> (Vec<i64>, Vec<f64>) {
+    let mut count = 0.0;
+    minutely(readings, |rng| {
+        count = if rng.once_in(20_000) { 0.0 } else { count + rng.between(0, 40) as f64 };
+        count
+    })
+}
+
+/// Hundredths of a degree: a walk with noise.
+fn probe(readings: usize) -> (Vec<i64>, Vec<f64>) {
+    let mut level = 2_000;
+    minutely(readings, |rng| {
+        level += rng.between(-5, 5);
+        (level + rng.between(-20, 20)) as f64 / 100.0
+    })
+}
+
+/// Values from 0 to 1, each drawn by itself.
+fn scattered(readings: usize) -> (Vec<i64>, Vec<f64>) {
+    minutely(readings, Rng::unit)
+}
+
+/// Readings once a minute, with jitter and gaps.
+fn minutely(readings: usize, mut value: impl FnMut(&mut Rng) -> f64) -> (Vec<i64>, Vec<f64>) {
     let mut rng = Rng::new(1);
-    let (mut time, mut count) = (0, 0.0);
+    let mut time = 0;
     let pairs = (0..readings).map(|_| {
         time += 60_000 + rng.between(-500, 500);
         time += if rng.once_in(10_000) { 3_600_000 } else { 0 };
-        count = if rng.once_in(20_000) { 0.0 } else { count + rng.between(0, 40) as f64 };
-        (time, count)
+        (time, value(&mut rng))
     });
     pairs.unzip()
 }

@@ -2,6 +2,7 @@
 pub mod Values
 pub mod Sort
 pub mod Order
+pub mod Ranges
 pub mod Quantile
 pub mod Deviation
 pub mod Mode
