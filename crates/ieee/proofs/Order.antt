@@ -15,7 +15,7 @@ use borrow.Author.Tests.{ltb-true, ltb-false, leb-true, lt-ltb, le-ltb, ne-eqb, 
 use Rattle.ieee.specs.Value.{negative, totalLt}
 use Rattle.ieee.proofs.Rank.{most, unitsOf, placed, rank, totalRank}
 use Rattle.ieee.proofs.Patterns.{not-nan, nan-or-number}
-use Rattle.ieee.proofs.Units.{held, units-fin, units-lt, units-le, patternAt, pattern-of}
+use Rattle.ieee.proofs.Units.{held, units-fin, units-lt, units-le, patternAt, pattern-of, same-units}
 
 -- two tests that pass together are equal
 same-test : (a b : Bool) → (T a → T b) → (T b → T a) → a ≡ b
@@ -289,3 +289,26 @@ total-lt-rank x y f g = go (nan-or-number x) (nan-or-number y)
     go (inl d) (inr q) = rw d (nan-last y ∙ sym (le-ltb (totalRank nan) (totalRank y) (le-of-lt (below-nan y g q))))
     go (inr p) (inl e) = rw e (before-nan x p ∙ sym (lt-ltb (totalRank x) (totalRank nan) (below-nan x f p)))
     go (inr p) (inr q) = numbers x y f g p q
+
+one-place : (c u v : ℕ) → u ≤ c → v ≤ c → (s t : Bool) → placed c (suc c) s u ≡ placed c (suc c) t v → (s ≡ t) × (u ≡ v)
+one-place c u v a b false false h = (refl, omega arith)
+one-place c u v a b false true h = absurd (omega arith)
+one-place c u v a b true false h = absurd (omega arith)
+one-place c u v a b true true h = (refl, omega arith)
+
+one-number : (x y : Float) → T (fits binary64 x) → T (fits binary64 y) → isNan x ≡ false → isNan y ≡ false → totalRank x ≡ totalRank y → x ≡ y
+one-number x y f g p q h =
+    let same = one-place most (unitsOf x) (unitsOf y) (units-le x f) (units-le y g) (negative x) (negative y) (sym (number-rank x p) ∙ h ∙ number-rank y q) in
+    same-units x y f g p q (same .0) (same .1)
+
+pub total-rank-injective : (x y : Float) → T (fits binary64 x) → T (fits binary64 y) → totalRank x ≡ totalRank y → x ≡ y
+total-rank-injective x y f g h = go (nan-or-number x) (nan-or-number y)
+  where
+    apart : (a b : ℕ) → a < b → a ≡ b → ⊥
+    apart a b l e = omega arith
+
+    go : (x ≡ nan) ⊎ (isNan x ≡ false) → (y ≡ nan) ⊎ (isNan y ≡ false) → x ≡ y
+    go (inl d) (inl e) = d ∙ sym e
+    go (inl d) (inr q) = absurd (apart (totalRank y) (totalRank nan) (below-nan y g q) (sym h ∙ ap totalRank d))
+    go (inr p) (inl e) = absurd (apart (totalRank x) (totalRank nan) (below-nan x f p) (h ∙ ap totalRank e))
+    go (inr p) (inr q) = one-number x y f g p q h
