@@ -18,9 +18,8 @@ use Rattle.series.specs.Answers.{refuses, replyOf}
 use Rattle.series.specs.Rows.{row1, row5, seriesChecked, timesChecked}
 use Rattle.series.specs.declared.refusal.Checked.the-variants.{Accepted}
 use Rattle.series.proofs.Accepted.{all-accept}
-use Rattle.series.proofs.Signed.{read-back}
 use Rattle.times.specs.Grid.{gridSize}
-use Rattle.times.proofs.Milli.{within-fits}
+use Rattle.times.proofs.Milli.{read-back, within-fits}
 use Rattle.run.specs.Place.{Allowed}
 use Rattle.run.specs.Run.{executed, lent, lentChecked, runChecked, runCourse, runPlan}
 use Rattle.run.proofs.Passed.{goes-by, run-sound, same-course, settling-accepted, settling-refused}

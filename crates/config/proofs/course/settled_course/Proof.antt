@@ -1,6 +1,6 @@
 -- `course::settled_course` meets its contract: each field is the setting's, and the grid's size that of the settings.
 -- Assumes nothing.
-use Rattle.series.proofs.Signed.{read-back}
+use Rattle.times.proofs.Milli.{read-back}
 use Rattle.config.proofs.Passed.{settled-spans}
 use Rattle.config.proofs.course.settled_course.Statement.{statement}
 use Rattle.config.proofs.course.settled_course.Tie as tie

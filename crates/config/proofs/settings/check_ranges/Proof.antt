@@ -3,7 +3,7 @@
 use mathlib.Core.Path.{_≡_, sym, _∙_}
 use borrow.Author.Needs.{needs}
 use lib.IntN.{pos}
-use Rattle.series.proofs.Signed.{read-back}
+use Rattle.times.proofs.Milli.{read-back}
 use Rattle.times.specs.Milli.{timeLimit}
 use Rattle.series.specs.declared.refusal.Checked.the-variants.{Accepted}
 use Rattle.config.specs.declared.settings.RollupConfig.{RollupConfig}

@@ -3,7 +3,7 @@
 use mathlib.Core.Path.{_≡_, sym, _∙_}
 use borrow.Author.Needs.{needs}
 use borrow.Author.Tests.{lt-ltb, le-ltb}
-use Rattle.series.proofs.Signed.{read-back}
+use Rattle.times.proofs.Milli.{read-back}
 use Rattle.series.specs.declared.refusal.Checked.the-variants.{Accepted}
 use Rattle.config.specs.declared.settings.SettledConfig.{SettledConfig}
 use Rattle.config.specs.Rows.{row11, settledOutside, settledSettings, spanChecked}
