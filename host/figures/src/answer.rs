@@ -1,13 +1,12 @@
 //! The figures of a series, and how they are worked out from files.
 
-use std::collections::HashMap;
-use std::path::Path;
 use std::time::{Duration, Instant};
 
 use harzoulin::{Settings, Settled, Workspace, settle};
 
 use crate::failure::Failure;
 use crate::jobs::in_order;
+use crate::joined::joined;
 use crate::options::Options;
 use crate::progress::Progress;
 use crate::read;
@@ -61,53 +60,44 @@ impl Answer {
         self.figures.iter().enumerate().map(|(place, figure)| (self.time(place), *figure))
     }
 
-    /// What the series is called: its name, or else its file's.
+    /// What the series is called.
     pub fn name(&self) -> &str {
-        let stem = || Path::new(&self.series.file).file_stem().and_then(|stem| stem.to_str());
-        self.series.name.as_deref().or_else(stem).unwrap_or(&self.series.file)
+        &self.series.title
     }
 }
 
-/// The figures of every series of the files, and the time that reading took. Several files are
-/// shared among the jobs; of a lone file its series are.
-pub fn all(options: &Options, progress: &Progress) -> Result<(Vec<Answer>, Duration), Failure> {
-    let read = |file: &String| {
+/// What was worked out of files.
+#[derive(Debug)]
+pub struct Worked {
+    /// The figures of every series.
+    pub answers: Vec<Answer>,
+    /// What a person should know of how they were read.
+    pub notes: Vec<String>,
+    /// The time that reading took.
+    pub reading: Duration,
+}
+
+/// The figures of every series of the files. The files are shared among the jobs, and then the
+/// series are.
+pub fn all(options: &Options, progress: &Progress) -> Result<Worked, Failure> {
+    let files = in_order(options.jobs, options.files.iter().collect(), |_, file: &String| {
         let begin = Instant::now();
-        let series = read::file(file, progress)?;
-        Ok((series, begin.elapsed()))
-    };
-    let work = |workspace: &mut Workspace, series| {
+        let input = read::file(file, &options.chosen, progress)?;
+        Ok((input, begin.elapsed()))
+    })?;
+    let (mut series, mut notes, mut reading) = (vec![], vec![], Duration::ZERO);
+    for (input, time) in files {
+        series.push(input.series);
+        notes.extend(input.notes);
+        reading += time;
+    }
+    let answers = in_order(options.jobs, joined(series)?, |workspace, series| {
         let mut answer = Answer::new(workspace, series, options)?;
         if options.plot.is_none() {
             (answer.series.times, answer.series.values) = (vec![], vec![]);
         }
         progress.worked_out();
         Ok(answer)
-    };
-    if let [file] = &options.files[..] {
-        let (series, reading) = read(file)?;
-        return Ok((in_order(options.jobs, series, work)?, reading));
-    }
-    let files = in_order(options.jobs, options.files.iter().collect(), |workspace, file| {
-        let (series, reading) = read(file)?;
-        let answers: Result<Vec<_>, _> = series.into_iter().map(|s| work(workspace, s)).collect();
-        Ok((answers?, reading))
     })?;
-    let reading = files.iter().map(|(_, reading)| *reading).sum();
-    let answers: Vec<Answer> = files.into_iter().flat_map(|(answers, _)| answers).collect();
-    told_apart(&answers)?;
-    Ok((answers, reading))
-}
-
-/// An error where two series have one name.
-fn told_apart(answers: &[Answer]) -> Result<(), Failure> {
-    let mut files = HashMap::new();
-    for answer in answers {
-        let (name, file) = (answer.name(), &answer.series.file);
-        if let Some(other) = files.insert(name, file) {
-            let message = format!("{file}: expected another name than {name}, which {other} has");
-            return Err(Failure::Input(message));
-        }
-    }
-    Ok(())
+    Ok(Worked { answers, notes, reading })
 }

@@ -5,8 +5,10 @@ use std::str::FromStr;
 
 use harzoulin::{Rollup, Settings};
 
+use crate::columns::Chosen;
 use crate::failure::Failure;
 use crate::options::{Format, Options};
+use crate::text::excerpt;
 use crate::time::{self, Form};
 
 /// What `figures --help` prints.
@@ -60,7 +62,7 @@ pub fn parse(arguments: impl Iterator<Item = String>) -> Result<Command, Failure
     }
 }
 
-const VALUED: [&str; 20] = [
+const VALUED: [&str; 23] = [
     "--at",
     "--end",
     "--format",
@@ -68,6 +70,7 @@ const VALUED: [&str; 20] = [
     "--jobs",
     "--lookback",
     "--max-points",
+    "--name-column",
     "--output",
     "--per-call",
     "--plot",
@@ -78,8 +81,10 @@ const VALUED: [&str; 20] = [
     "--staleness",
     "--start",
     "--step",
+    "--time-column",
     "--times",
     "--unit",
+    "--value-column",
     "--window",
 ];
 const FLAGS: [&str; 3] = ["--adjust-window", "--default-rollup", "--stats"];
@@ -136,7 +141,9 @@ impl Given {
         read: impl Fn(&str) -> Result<T, E>,
     ) -> Result<Option<T>, Failure> {
         let value = self.text(name).map(|text| {
-            read(text).map_err(|e| usage(format!("{name}: {}, found {text:?}", e.to_string())))
+            read(text).map_err(|expected| {
+                usage(format!("{name}: {}, found \"{}\"", expected.to_string(), excerpt(text)))
+            })
         });
         value.transpose()
     }
@@ -190,6 +197,9 @@ impl Given {
         let step = step.ok_or_else(|| usage("expected --step or --window"))?;
         let mut options = Options::new(self.rollup()?, step);
         options.files.clone_from(&self.files);
+        let [time, value, name] = ["--time-column", "--value-column", "--name-column"]
+            .map(|option| self.text(option).map(String::from));
+        options.chosen = Chosen { time, value, name };
         options.pre = self.read("--pre", str::parse)?.unwrap_or_default();
         options.start = self.read("--start", time::parse)?.map(|(time, _)| time);
         options.end = self.read("--end", time::parse)?.map(|(time, _)| time);

@@ -48,7 +48,7 @@ fn answers(text: &[u8], line: &str) -> Result<(Vec<Answer>, Options), Failure> {
     let Command::Figures(options) = arguments::parse(arguments)? else {
         unreachable!("the line names files and options only")
     };
-    let series = read::csv(&options.files[0], text, &Progress::default())?;
+    let series = read::csv(&options.files[0], text, &options.chosen, &Progress::default())?.series;
     let mut workspace = Workspace::new();
     let answers = series.into_iter().map(|s| Answer::new(&mut workspace, s, &options));
     Ok((answers.collect::<Result<_, _>>()?, options))

@@ -7,6 +7,7 @@ use harzoulin::{SettledSettings, Workspace, settle};
 use crate::failure::Failure;
 use crate::options::Options;
 use crate::series::Series;
+use crate::text::visible;
 use crate::time::{Stamp, format_duration};
 use crate::write::Number;
 
@@ -40,7 +41,7 @@ pub fn text(series: &Series, options: &Options, at: i64) -> Result<String, Failu
 
     let mut out = String::new();
     let mut line = |name: &str, text: String| writeln!(out, "{name:13}{text}").expect("a string");
-    line("series", series.name.clone().unwrap_or_else(|| series.file.clone()));
+    line("series", visible(series.name.as_deref().unwrap_or(series.file())));
     line("figure", format!("{} at {}, prepared by {}", options.rollup, stamp(at), options.pre));
     let length = format_duration(only.window);
     line("window", format!("{length}, after {}, up to {}", stamp(left), stamp(at)));

@@ -6,7 +6,9 @@ mod columns;
 mod demo;
 mod explain;
 mod failure;
+mod fields;
 mod jobs;
+mod joined;
 mod list;
 mod options;
 mod output;
@@ -15,6 +17,7 @@ mod plot;
 mod progress;
 mod read;
 mod series;
+mod text;
 mod time;
 mod write;
 
@@ -22,7 +25,7 @@ use std::env;
 use std::process::ExitCode;
 use std::time::{Duration, Instant};
 
-use answer::Answer;
+use answer::{Answer, Worked};
 use arguments::{Command, HELP};
 use failure::Failure;
 use options::Options;
@@ -56,13 +59,16 @@ fn run(command: Command) -> Result<(), Failure> {
 }
 
 fn figures(options: &Options) -> Result<(), Failure> {
-    let (answers, reading) =
+    let Worked { answers, notes, reading } =
         Progress::default().shown(|progress| answer::all(options, progress))?;
     let begin = Instant::now();
     if let Some(path) = &options.plot {
         plot::write(path, &[(&answers, options)])?;
     }
     write::figures(&answers, options)?;
+    for note in notes {
+        eprintln!("figures: {note}");
+    }
     if options.stats {
         stats(&answers, reading, begin.elapsed());
     }
@@ -73,7 +79,7 @@ fn explain(options: &Options, at: i64) -> Result<(), Failure> {
     let progress = Progress::default();
     let mut texts = vec![];
     for file in &options.files {
-        for series in read::file(file, &progress)? {
+        for series in read::file(file, &options.chosen, &progress)?.series {
             texts.push(explain::text(&series, options, at)?);
         }
     }

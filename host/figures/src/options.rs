@@ -5,6 +5,7 @@ use std::thread;
 
 use harzoulin::{Rollup, Settings, Step};
 
+use crate::columns::Chosen;
 use crate::failure::Failure;
 use crate::series::Series;
 use crate::time::Form;
@@ -23,6 +24,7 @@ pub enum Format {
 #[derive(Clone, Debug)]
 pub struct Options {
     pub files: Vec<String>,
+    pub chosen: Chosen,
     pub pre: Step,
     pub rollup: Rollup,
     pub start: Option<i64>,
@@ -43,6 +45,7 @@ impl Options {
     pub fn new(rollup: Rollup, step: i64) -> Options {
         Options {
             files: vec![],
+            chosen: Chosen::default(),
             pre: Step::None,
             rollup,
             start: None,
@@ -68,7 +71,7 @@ impl Options {
         let end = self.end.or_else(|| whole(series.times.last()));
         let (Some(start), Some(end)) = (start, end) else {
             let message = "expected a reading, or --start and --end";
-            return Err(Failure::Input(format!("{}: {message}", series.file)));
+            return Err(Failure::Input(format!("{}: {message}", series.file())));
         };
         Ok(Settings { start, end, ..self.settings })
     }

@@ -5,6 +5,7 @@ use std::io::{self, Write};
 
 use crate::answer::Answer;
 use crate::failure::Failure;
+use crate::fields::written;
 use crate::options::{Format, Options};
 use crate::output::{output, whole};
 use crate::time::{Stamp, format_duration};
@@ -32,24 +33,16 @@ fn csv(answers: &[Answer], options: &Options, out: &mut impl Write) -> io::Resul
         out,
         "{}time,{}",
         if named { "name," } else { "" },
-        field(&options.rollup.to_string())
+        written(&options.rollup.to_string())
     )?;
     for answer in answers {
         let form = options.times.unwrap_or(answer.series.form);
-        let name = if named { field(answer.name()) + "," } else { String::new() };
+        let name = if named { written(answer.name()) + "," } else { "".into() };
         for (time, figure) in answer.rows() {
             writeln!(out, "{name}{},{}", Stamp(time, form), Number(figure))?;
         }
     }
     Ok(())
-}
-
-/// A field of CSV, in quotes where it needs them.
-fn field(text: &str) -> String {
-    match text.contains([',', '"']) {
-        true => format!("\"{}\"", text.replace('"', "\"\"")),
-        false => text.into(),
-    }
 }
 
 /// A table of a series: a line about it, a header, and the figures under one another.

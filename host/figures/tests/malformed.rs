@@ -86,14 +86,19 @@ fn fields() {
 #[test]
 fn headers() {
     let header = "expected a header with time and value, and perhaps name";
+    let choose = "choose columns by --time-column, --value-column or --name-column";
     refused("time,celsius\n", &format!("1: {header}"));
-    refused("time,value,unit\n", &format!("1: {header}"));
-    refused("time,value,name,unit\n", &format!("1: {header}"));
-    refused("time,time,value\n", &format!("1: {header}"));
+    refused("time,value,unit\n", &format!("1: {header}, found unit besides: {choose}"));
+    refused("time,value,readings\n", &format!("1: {header}, found readings besides: {choose}"));
+    refused("time,value,name,unit\n", &format!("1: {header}, found unit besides: {choose}"));
     refused(
-        "time,value\n0,1\ntime,value\n",
-        "3: expected a time: milliseconds, or as 2026-01-31T12:00:00Z, found \"time\"",
+        "time,Timestamp,value\n",
+        "1: expected one column of times, found time and Timestamp: choose one by --time-column",
     );
+    let again = "expected a reading, found a header";
+    refused("time,value\n0,1\ntime,value\n", &format!("3: {again}"));
+    refused("0,1\n\nTime,Value\n", &format!("3: {again}"));
+    refused("name,time,value\na,0,1\nname,time,avg\n", &format!("3: {again}"));
 }
 
 #[test]
