@@ -12,6 +12,7 @@ mod joined;
 mod list;
 mod options;
 mod output;
+mod places;
 mod plain;
 mod plot;
 mod progress;
@@ -59,6 +60,7 @@ fn run(command: Command) -> Result<(), Failure> {
 }
 
 fn figures(options: &Options) -> Result<(), Failure> {
+    places::distinct(options)?;
     let Worked { answers, notes, reading } =
         Progress::default().shown(|progress| answer::all(options, progress))?;
     let begin = Instant::now();

@@ -5,6 +5,7 @@ use std::io::{self, BufWriter, ErrorKind, StdoutLock, Write, stdout};
 use std::process;
 
 use crate::failure::Failure;
+use crate::places::resolved;
 
 /// Writes a file beside its place and moves it there once it is whole. What is no plain file, such
 /// as a device, is written to as it stands.
@@ -12,7 +13,7 @@ pub fn whole(
     path: &str,
     fill: impl FnOnce(&mut BufWriter<File>) -> io::Result<()>,
 ) -> Result<(), Failure> {
-    let place = fs::canonicalize(path).unwrap_or(path.into());
+    let place = resolved(path);
     let mut part = place.clone().into_os_string();
     part.push(format!(".{}.part", process::id()));
     let written = if fs::metadata(&place).is_ok_and(|found| !found.is_file()) {
