@@ -2,7 +2,7 @@
 
 use std::time::{Duration, Instant};
 
-use harzoulin::{Settings, Settled, Workspace, settle};
+use harzoulin::{Rollup, Settings, Settled, Step, Workspace, settle};
 
 use crate::failure::Failure;
 use crate::jobs::in_order;
@@ -23,8 +23,10 @@ pub struct Answer {
     pub settings: Settings,
     /// The window and the reach in force.
     pub settled: Settled,
-    /// One figure for each output time.
-    pub figures: Vec<f64>,
+    /// For each rollup, one figure for each output time.
+    pub figures: Vec<Vec<f64>>,
+    /// How many readings are in the window of each output time, where that is asked for.
+    pub behind: Vec<u32>,
     /// The count of scanned readings.
     pub count: u64,
     /// The time that the core took.
@@ -43,11 +45,28 @@ impl Answer {
         let (times, values) = (&series.times, &series.values);
         let refused = |refusal| series.refused(refusal);
         let settled = settle(times, &settings).map_err(refused)?;
-        let run = workspace.run(times, values, options.pre, options.rollup, &settings);
-        let run = run.map_err(refused)?;
-        let core = begin.elapsed();
-        let (figures, count, readings) = (run.values.to_vec(), run.count, times.len());
-        Ok(Answer { series, readings, settings, settled, figures, count, core })
+        let (mut figures, mut count) = (vec![], 0);
+        for rollup in &options.rollups {
+            let run = workspace.run(times, values, options.pre, *rollup, &settings);
+            let run = run.map_err(refused)?;
+            figures.push(run.values.to_vec());
+            count += run.count;
+        }
+        let mut behind = vec![];
+        if options.counts_readings() {
+            let same = settings.settled(settled);
+            let run = workspace.settled_run(times, values, Step::None, Rollup::Count, &same);
+            // The count of an empty window is NaN, which is 0 as a whole number.
+            behind.extend(run.map_err(refused)?.values.iter().map(|count| *count as u32));
+            leave_out(&mut figures, &behind, options.min_readings);
+        }
+        let (core, readings) = (begin.elapsed(), times.len());
+        Ok(Answer { series, readings, settings, settled, figures, behind, count, core })
+    }
+
+    /// How many output times there are.
+    pub fn points(&self) -> usize {
+        self.settled.points
     }
 
     /// The output time of a figure.
@@ -55,14 +74,20 @@ impl Answer {
         self.settings.start + place as i64 * self.settings.step
     }
 
-    /// The output times with their figures.
-    pub fn rows(&self) -> impl Iterator<Item = (i64, f64)> {
-        self.figures.iter().enumerate().map(|(place, figure)| (self.time(place), *figure))
-    }
-
     /// What the series is called.
     pub fn name(&self) -> &str {
         &self.series.title
+    }
+}
+
+/// Puts NaN where a figure is of fewer readings than are asked for.
+fn leave_out(figures: &mut [Vec<f64>], behind: &[u32], least: u32) {
+    for figures in figures {
+        for (figure, behind) in figures.iter_mut().zip(behind) {
+            if *behind < least {
+                *figure = f64::NAN;
+            }
+        }
     }
 }
 

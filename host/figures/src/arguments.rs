@@ -62,7 +62,7 @@ pub fn parse(arguments: impl Iterator<Item = String>) -> Result<Command, Failure
     }
 }
 
-const VALUED: [&str; 23] = [
+const VALUED: [&str; 24] = [
     "--at",
     "--end",
     "--format",
@@ -70,6 +70,7 @@ const VALUED: [&str; 23] = [
     "--jobs",
     "--lookback",
     "--max-points",
+    "--min-readings",
     "--name-column",
     "--output",
     "--per-call",
@@ -87,7 +88,7 @@ const VALUED: [&str; 23] = [
     "--value-column",
     "--window",
 ];
-const FLAGS: [&str; 3] = ["--adjust-window", "--default-rollup", "--stats"];
+const FLAGS: [&str; 4] = ["--adjust-window", "--default-rollup", "--readings", "--stats"];
 
 /// The options as they were written.
 #[derive(Default)]
@@ -156,6 +157,10 @@ impl Given {
         self.read(name, |text| text.parse().map_err(|_| "expected a whole number"))
     }
 
+    fn positive<T: FromStr>(&self, name: &str) -> Result<Option<T>, Failure> {
+        self.read(name, |text| text.parse().map_err(|_| "expected a whole number from 1 on"))
+    }
+
     /// An error if anything but these options is given.
     fn alone(&self, command: &str, options: &[&str]) -> Result<(), Failure> {
         let mut names = self.options.iter().map(|(name, _)| name).chain(&self.files);
@@ -195,7 +200,7 @@ impl Given {
         let window = self.duration("--window")?;
         let step = self.duration("--step")?.or(window);
         let step = step.ok_or_else(|| usage("expected --step or --window"))?;
-        let mut options = Options::new(self.rollup()?, step);
+        let mut options = Options::new(vec![self.rollup()?], step);
         options.files.clone_from(&self.files);
         let [time, value, name] = ["--time-column", "--value-column", "--name-column"]
             .map(|option| self.text(option).map(String::from));
@@ -213,13 +218,14 @@ impl Given {
             samples_scanned_per_call: self.number("--per-call")?.unwrap_or(0),
             ..options.settings
         };
+        options.min_readings = self.positive("--min-readings")?.map_or(0, NonZero::get);
+        options.readings = self.flag("--readings");
         options.format = self.read("--format", format)?.unwrap_or_default();
         options.times = self.read("--times", form)?;
         options.output = self.text("--output").filter(|file| *file != "-").map(String::from);
         options.plot = self.text("--plot").map(String::from);
         options.unit = self.text("--unit").unwrap_or_default().into();
-        let jobs: Option<NonZero<usize>> = self.number("--jobs")?;
-        options.jobs = jobs.map_or(options.jobs, NonZero::get);
+        options.jobs = self.positive("--jobs")?.map_or(options.jobs, NonZero::get);
         options.stats = self.flag("--stats");
         Ok(options)
     }

@@ -15,15 +15,15 @@ use crate::{output, plot, read, write};
 const SERIES: [(&[u8], &str); 3] = [
     (
         include_bytes!("../../../data/drive.csv"),
-        "--rollup ascent_over_time --step 7d --start 2026-03-09 --times rfc3339 --unit m data/drive.csv",
+        "--format text --rollup ascent_over_time --step 7d --start 2026-03-09 --times rfc3339 --unit m data/drive.csv",
     ),
     (
         include_bytes!("../../../data/cartridge.csv"),
-        "--quantile 0.9 --step 30d --times rfc3339 --unit errors data/cartridge.csv",
+        "--format text --quantile 0.9 --step 30d --times rfc3339 --unit errors data/cartridge.csv",
     ),
     (
         include_bytes!("../../../data/climate.csv"),
-        "--rollup avg --step 1d --unit °C data/climate.csv",
+        "--format text --rollup avg --step 1d --unit °C data/climate.csv",
     ),
 ];
 
@@ -36,7 +36,7 @@ pub fn run(picture: &str) -> Result<(), Failure> {
     plot::write(picture, &drawn)?;
     output::output(|out| {
         for ((answers, options), (_, line)) in series.iter().zip(SERIES) {
-            writeln!(out, "figures --format text {line}")?;
+            writeln!(out, "figures {line}")?;
             answers.iter().try_for_each(|answer| write::table(answer, options, out))?;
         }
         writeln!(out, "The picture is {picture}.")

@@ -22,7 +22,8 @@ pub fn text(series: &Series, options: &Options, at: i64) -> Result<String, Failu
     let only = SettledSettings { start: at, end: at, ..settings.settled(settled) };
     let mut workspace = Workspace::new();
     let (times, values) = (&series.times, &series.values);
-    let run = workspace.settled_run(times, values, options.pre, options.rollup, &only);
+    let rollup = options.rollups[0];
+    let run = workspace.settled_run(times, values, options.pre, rollup, &only);
     let run = run.map_err(refused)?;
 
     let form = options.times.unwrap_or(series.form);
@@ -42,7 +43,7 @@ pub fn text(series: &Series, options: &Options, at: i64) -> Result<String, Failu
     let mut out = String::new();
     let mut line = |name: &str, text: String| writeln!(out, "{name:13}{text}").expect("a string");
     line("series", visible(series.name.as_deref().unwrap_or(series.file())));
-    line("figure", format!("{} at {}, prepared by {}", options.rollup, stamp(at), options.pre));
+    line("figure", format!("{rollup} at {}, prepared by {}", stamp(at), options.pre));
     let length = format_duration(only.window);
     line("window", format!("{length}, after {}, up to {}", stamp(left), stamp(at)));
     line("reach", format!("{}, back to {}", format_duration(only.reach), stamp(limit)));

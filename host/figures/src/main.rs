@@ -91,7 +91,7 @@ fn explain(options: &Options, at: i64) -> Result<(), Failure> {
 /// Sizes and times on standard error; with several jobs, times are summed over them.
 fn stats(answers: &[Answer], reading: Duration, writing: Duration) {
     let readings: usize = answers.iter().map(|answer| answer.readings).sum();
-    let figures: usize = answers.iter().map(|answer| answer.figures.len()).sum();
+    let figures: usize = answers.iter().flat_map(|a| &a.figures).map(Vec::len).sum();
     let count: u64 = answers.iter().map(|answer| answer.count).sum();
     let core: Duration = answers.iter().map(|answer| answer.core).sum();
     let [reading, core, writing] = [reading, core, writing].map(|time| time.as_secs_f64());

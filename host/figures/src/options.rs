@@ -26,12 +26,16 @@ pub struct Options {
     pub files: Vec<String>,
     pub chosen: Chosen,
     pub pre: Step,
-    pub rollup: Rollup,
+    pub rollups: Vec<Rollup>,
     pub start: Option<i64>,
     pub end: Option<i64>,
     /// The settings but for start and end.
     pub settings: Settings,
+    /// A figure of fewer readings is left out.
+    pub min_readings: u32,
     pub format: Format,
+    /// Whether CSV has how many readings stand behind each figure.
+    pub readings: bool,
     pub times: Option<Form>,
     pub output: Option<String>,
     pub plot: Option<String>,
@@ -41,17 +45,19 @@ pub struct Options {
 }
 
 impl Options {
-    /// Options for a rollup with windows that meet one another.
-    pub fn new(rollup: Rollup, step: i64) -> Options {
+    /// Options for rollups with windows that meet one another.
+    pub fn new(rollups: Vec<Rollup>, step: i64) -> Options {
         Options {
             files: vec![],
             chosen: Chosen::default(),
             pre: Step::None,
-            rollup,
+            rollups,
             start: None,
             end: None,
             settings: Settings { step, ..Settings::default() },
+            min_readings: 0,
             format: Format::Csv,
+            readings: false,
             times: None,
             output: None,
             plot: None,
@@ -59,6 +65,11 @@ impl Options {
             jobs: thread::available_parallelism().map_or(1, NonZero::get),
             stats: false,
         }
+    }
+
+    /// Whether the readings behind each figure are counted.
+    pub fn counts_readings(&self) -> bool {
+        self.readings || self.min_readings > 0 || self.plot.is_some() || self.format != Format::Csv
     }
 
     /// The settings for a series: its own grid where none is given.

@@ -145,9 +145,9 @@ fn a_table_is_aligned() {
     let input = "2026-01-01T00:00:00Z,1\n2026-01-01T00:01:00Z,12345.5\n";
     let text = output("--rollup max --step 1m --format text -", input);
     let table = "standard input: 2 readings, prepared by none, windows of 1m
-time                      max
-2026-01-01T00:00:00Z        1
-2026-01-01T00:01:00Z  12345.5
+time                      max  readings
+2026-01-01T00:00:00Z        1         1
+2026-01-01T00:01:00Z  12345.5         1
 
 ";
     assert_eq!(text, table);

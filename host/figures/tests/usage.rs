@@ -44,7 +44,10 @@ fn messages() {
         "--rollup avg --step 1m --start x -",
         "--start: expected a time: milliseconds, or as 2026-01-31T12:00:00Z, found \"x\"",
     );
-    refused("--rollup avg --step 1m --jobs 0 -", "--jobs: expected a whole number, found \"0\"");
+    refused(
+        "--rollup avg --step 1m --jobs 0 -",
+        "--jobs: expected a whole number from 1 on, found \"0\"",
+    );
     refused(
         "--rollup avg --step 1m --format xml -",
         "--format: expected csv or text, found \"xml\"",

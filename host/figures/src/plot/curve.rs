@@ -65,31 +65,50 @@ impl Picture<'_> {
         }
     }
 
-    /// Each figure as a bar along its window, with a dot at its output time; many figures as a
-    /// line. Where there is no figure a tick stands at the bottom.
+    /// The figures, as [`single`](Picture::single) ones if they are few, else as a line. Where there
+    /// is no figure a tick stands at the bottom.
     pub fn figures(&mut self, y: &Axis, bottom: f64) {
-        let answer = self.answer;
-        let (figures, window) = (&answer.figures, answer.settled.window);
-        let missing = |place: usize| !figures[place].is_finite();
-        let time = |place: usize| answer.time(place);
-        let ticks = (0..figures.len()).filter(|place| missing(*place));
-        let mut ticks: Vec<f64> = ticks.map(|place| self.inside(time(place)).round()).collect();
+        let missing = (0..self.figures.len()).filter(|place| !self.figures[*place].is_finite());
+        let ticks = missing.map(|place| self.inside(self.answer.time(place)).round());
+        let mut ticks: Vec<f64> = ticks.collect();
         ticks.dedup();
         let ticks: String = ticks.iter().map(|x| format!("M{x} {}v-6", bottom - 1.0)).collect();
         self.put(format_args!("<path class=\"none\" d=\"{ticks}\"/>"));
-        if figures.len() > SINGLE {
-            let breaks = |place| missing(place) || missing(place + 1);
-            let path = self.path(y, 0..figures.len(), time, figures, breaks);
-            return self.put(format_args!("<path class=\"figures\" d=\"{path}\"/>"));
+        for (thin, class) in [(false, ""), (true, " thin")] {
+            let figure = |place: usize| match self.is_thin(place) == thin {
+                true => self.figures[place],
+                false => f64::NAN,
+            };
+            let figures: Vec<f64> = (0..self.figures.len()).map(figure).collect();
+            if figures.len() > SINGLE {
+                self.line(y, &figures, class);
+            } else {
+                self.single(y, &figures, class);
+            }
         }
-        for place in (0..figures.len()).filter(|place| !missing(*place)) {
-            let (from, to) = (self.inside(time(place) - window), self.inside(time(place)));
+    }
+
+    /// Each figure as a bar along its window, with a dot at its output time.
+    fn single(&mut self, y: &Axis, figures: &[f64], class: &str) {
+        let (answer, window) = (self.answer, self.answer.settled.window);
+        for place in (0..figures.len()).filter(|place| figures[*place].is_finite()) {
+            let time = answer.time(place);
+            let (from, to) = (self.inside(time - window), self.inside(time));
             let height = y.place(figures[place]);
-            self.put(format_args!("<path class=\"window\" d=\"M{from} {height}H{to}\"/>"));
+            self.put(format_args!("<path class=\"window{class}\" d=\"M{from} {height}H{to}\"/>"));
             self.put(format_args!(
-                "<circle class=\"figure\" cx=\"{to}\" cy=\"{height}\" r=\"2.6\"/>"
+                "<circle class=\"figure{class}\" cx=\"{to}\" cy=\"{height}\" r=\"2.6\"/>"
             ));
         }
+    }
+
+    /// The figures as a line that is broken where there is none.
+    fn line(&mut self, y: &Axis, figures: &[f64], class: &str) {
+        let missing = |place: usize| !figures[place].is_finite();
+        let breaks = |place| missing(place) || missing(place + 1);
+        let time = |place| self.answer.time(place);
+        let path = self.path(y, 0..figures.len(), time, figures, breaks);
+        self.put(format_args!("<path class=\"figures{class}\" d=\"{path}\"/>"));
     }
 
     /// A line through numbers, broken after some; of those that share a column of the picture the
@@ -118,7 +137,7 @@ impl Picture<'_> {
                 letter = 'L';
             }
             column.clear();
-            if ends {
+            if ends && letter == 'L' {
                 // A stretch of one number is a dot: a line of no length with round ends.
                 path += "h0";
                 letter = 'M';

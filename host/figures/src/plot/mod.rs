@@ -28,18 +28,25 @@ const FIGURES: f64 = 130.0;
 const TIMES: f64 = 46.0;
 const HEIGHT: f64 = TITLE + READINGS + BETWEEN + FIGURES + TIMES;
 
+/// The part of the usual number of readings that a window has to have to be drawn as a full one.
+const FULL: f64 = 0.75;
+
 const STYLE: &str = "text{font:12px sans-serif;fill:#333}.title{font-weight:bold;font-size:14px}\
 .frame{fill:none;stroke:#999}.mark{stroke:#e4e4e4}.gap{fill:#eceff1}.note{fill:#78909c}\
 .line{fill:none;stroke:#1f77b4;stroke-width:1.2;stroke-linejoin:round;stroke-linecap:round}.dot{fill:#1f77b4}\
 .window{stroke:#d95f02;stroke-width:2.4;stroke-opacity:.75}.figure{fill:#d95f02}\
 .none{stroke:#78909c;stroke-width:1.5}\
-.figures{fill:none;stroke:#d95f02;stroke-width:1.2;stroke-linejoin:round;stroke-linecap:round}";
+.figures{fill:none;stroke:#d95f02;stroke-width:1.2;stroke-linejoin:round;stroke-linecap:round}\
+.window.thin{stroke-dasharray:3 3}.figure.thin{fill:#fff;stroke:#d95f02}.figures.thin{stroke-opacity:.4}";
 
-/// Writes a picture of all the answers.
+/// Writes a picture of all the answers, with a part for each series and rollup.
 pub fn write(path: &str, groups: &[(&[Answer], &Options)]) -> Result<(), Failure> {
     let panels: Vec<_> = groups
         .iter()
         .flat_map(|(answers, options)| answers.iter().map(move |answer| (answer, *options)))
+        .flat_map(|(answer, options)| {
+            (0..options.rollups.len()).map(move |rollup| (answer, options, rollup))
+        })
         .collect();
     let height = HEIGHT * panels.len() as f64;
     let mut svg = format!(
@@ -47,17 +54,21 @@ pub fn write(path: &str, groups: &[(&[Answer], &Options)]) -> Result<(), Failure
          width=\"{WIDTH}\" height=\"{height}\">\n<style>{STYLE}</style>\n\
          <rect width=\"{WIDTH}\" height=\"{height}\" fill=\"#fff\"/>\n"
     );
-    for (place, (answer, options)) in panels.into_iter().enumerate() {
-        svg += &Picture::new(answer, options, HEIGHT * place as f64).draw();
+    for (place, (answer, options, rollup)) in panels.into_iter().enumerate() {
+        svg += &Picture::new(answer, options, rollup, HEIGHT * place as f64).draw();
     }
     svg += "</svg>\n";
     whole(path, |out| out.write_all(svg.as_bytes()))
 }
 
-/// The part of the picture that belongs to a series.
+/// The part of the picture that belongs to a series and a rollup.
 struct Picture<'a> {
     answer: &'a Answer,
     options: &'a Options,
+    rollup: Rollup,
+    figures: &'a [f64],
+    /// A window of fewer readings is a thin one.
+    full: f64,
     top: f64,
     /// The first and the last time that are shown.
     low: i64,
@@ -69,7 +80,7 @@ struct Picture<'a> {
 
 impl<'a> Picture<'a> {
     /// The times shown are those of the readings and the grid, or of the grid that was asked for.
-    fn new(answer: &'a Answer, options: &'a Options, top: f64) -> Picture<'a> {
+    fn new(answer: &'a Answer, options: &'a Options, rollup: usize, top: f64) -> Picture<'a> {
         let (start, end) = (answer.settings.start, answer.settings.end);
         let times = &answer.series.times;
         let low = match options.start {
@@ -81,7 +92,14 @@ impl<'a> Picture<'a> {
             None => times.last().map_or(end, |last| end.max(*last)),
         };
         let x = Axis::new(low as f64, high as f64, LEFT, RIGHT);
-        Picture { answer, options, top, low, high, x, svg: String::new() }
+        let (rollup, figures) = (options.rollups[rollup], &answer.figures[rollup]);
+        let full = FULL * usual(&answer.behind);
+        Picture { answer, options, rollup, figures, full, top, low, high, x, svg: String::new() }
+    }
+
+    /// Whether a figure is of far fewer readings than the others.
+    fn is_thin(&self, place: usize) -> bool {
+        f64::from(self.answer.behind[place]) < self.full
     }
 
     fn put(&mut self, element: std::fmt::Arguments) {
@@ -98,7 +116,7 @@ impl<'a> Picture<'a> {
         let title = format!(
             "{}: {} of windows of {}, one every {}",
             answer.name(),
-            options.rollup,
+            self.rollup,
             format_duration(answer.settled.window),
             format_duration(answer.settings.step)
         );
@@ -111,11 +129,11 @@ impl<'a> Picture<'a> {
         let label = if unit.is_empty() { "readings".into() } else { format!("readings, {unit}") };
         let y = self.frame(above, &answer.series.values[self.shown()], &label);
         self.readings(&y);
-        let label = match unit_of(options.pre, options.rollup, unit) {
-            unit if unit.is_empty() => options.rollup.to_string(),
-            unit => format!("{}, {unit}", options.rollup),
+        let label = match unit_of(options.pre, self.rollup, unit) {
+            unit if unit.is_empty() => self.rollup.to_string(),
+            unit => format!("{}, {unit}", self.rollup),
         };
-        let y = self.frame(below, &answer.figures, &label);
+        let y = self.frame(below, self.figures, &label);
         self.figures(&y, below.1);
         self.svg
     }
@@ -151,13 +169,22 @@ impl<'a> Picture<'a> {
             self.text(x, bottom + 16.0, "text-anchor=\"middle\"", &text);
         }
         self.text(RIGHT, bottom + 32.0, "text-anchor=\"end\" class=\"note\"", "time, UTC");
-        let legend = match self.answer.figures.len() {
-            0..=SINGLE => "bar: a figure along its window; dot: its output time; ",
-            _ => "line: the figures; ",
+        let legend = match self.figures.len() {
+            0..=SINGLE => {
+                "bar: a figure along its window, dashed if of few readings; dot: its output time; "
+            }
+            _ => "line: the figures, pale if of few readings; ",
         };
         let legend = format!("{legend}tick at the bottom: no figure");
         self.text(LEFT, bottom + 32.0, "class=\"note\"", &legend);
     }
+}
+
+/// The median of how many readings the windows have that have any.
+fn usual(behind: &[u32]) -> f64 {
+    let mut counts: Vec<u32> = behind.iter().copied().filter(|count| *count > 0).collect();
+    let middle = counts.len() / 2;
+    if counts.is_empty() { 0.0 } else { f64::from(*counts.select_nth_unstable(middle).1) }
 }
 
 /// The unit of the figures, from that of the values.
