@@ -119,7 +119,7 @@ impl Given {
         } else if FLAGS.contains(&name.as_str()) && value.is_none() {
             String::new()
         } else {
-            return Err(usage(format!("{name} is no option")));
+            return Err(usage(format!("{} is no option", excerpt(&name))));
         };
         self.options.push((name, value));
         Ok(())
@@ -165,7 +165,7 @@ impl Given {
     fn alone(&self, command: &str, options: &[&str]) -> Result<(), Failure> {
         let mut names = self.options.iter().map(|(name, _)| name).chain(&self.files);
         match names.find(|name| !options.contains(&name.as_str())) {
-            Some(name) => Err(usage(format!("figures {command} takes no {name}"))),
+            Some(name) => Err(usage(format!("figures {command} takes no {}", excerpt(name)))),
             None => Ok(()),
         }
     }
@@ -180,9 +180,10 @@ impl Given {
             let full = |parameters: &str| format!("{name}({parameters})").parse();
             if let Some(rollup) = self.read(option, full)? {
                 return match named {
-                    Some(other) if other != name => {
-                        Err(usage(format!("expected one rollup, found {other} and {name}")))
-                    }
+                    Some(other) if other != name => Err(usage(format!(
+                        "expected one rollup, found {} and {name}",
+                        excerpt(other)
+                    ))),
                     _ => Ok(rollup),
                 };
             }

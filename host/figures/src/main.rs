@@ -31,13 +31,17 @@ use arguments::{Command, HELP};
 use failure::Failure;
 use options::Options;
 use progress::Progress;
+use text::excerpt;
 
 fn main() -> ExitCode {
     let arguments: Result<Vec<String>, _> =
         env::args_os().skip(1).map(|argument| argument.into_string()).collect();
     let command = match arguments {
         Ok(arguments) => arguments::parse(arguments.into_iter()),
-        Err(other) => Err(Failure::Usage(format!("expected UTF-8 text, found {other:?}"))),
+        Err(other) => {
+            let found = excerpt(&other.to_string_lossy());
+            Err(Failure::Usage(format!("expected UTF-8 text, found {found}")))
+        }
     };
     match command.and_then(run) {
         Ok(()) => ExitCode::SUCCESS,

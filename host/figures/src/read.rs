@@ -18,6 +18,9 @@ use crate::series::Series;
 use crate::text::excerpt;
 use crate::time::{self, Form};
 
+/// The most bytes of a line, without its end.
+const LINE: u64 = 65_536;
+
 /// What a file holds.
 #[derive(Debug)]
 pub struct Input {
@@ -56,8 +59,11 @@ pub fn csv(
             input.consume(length);
         } else {
             bytes.clear();
-            match input.read_until(b'\n', &mut bytes) {
+            match input.by_ref().take(LINE + 1).read_until(b'\n', &mut bytes) {
                 Ok(0) => break,
+                Ok(length) if length as u64 > LINE && !bytes.ends_with(b"\n") => {
+                    Err("expected a line of at most 65,536 bytes".into())
+                }
                 Ok(_) => reader.line(line, &bytes),
                 Err(error) => return Err(Failure::file(name, error)),
             }
@@ -90,6 +96,7 @@ impl<'a> Reader<'a> {
     /// Takes in the line that a buffer begins with, if it is a plain one, and gives its length.
     fn plain(&mut self, line: usize, buffer: &[u8]) -> Option<usize> {
         let series = self.all.get_mut(self.last)?;
+        let buffer = &buffer[..buffer.len().min(LINE as usize + 1)];
         let (time, value, length) = plain::reading(buffer, self.columns.as_ref()?, series)?;
         series.push(line, time, value);
         Some(length)
