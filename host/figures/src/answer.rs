@@ -105,7 +105,7 @@ pub struct Worked {
 /// The figures of every series of the files. The files are shared among the jobs, and then the
 /// series are.
 pub fn all(options: &Options, progress: &Progress) -> Result<Worked, Failure> {
-    let files = in_order(options.jobs, options.files.iter().collect(), |_, file: &String| {
+    let files = in_order(options.jobs, options.files.iter().collect(), |_, _, file: &String| {
         let begin = Instant::now();
         let input = read::file(file, &options.chosen, progress)?;
         Ok((input, begin.elapsed()))
@@ -116,7 +116,7 @@ pub fn all(options: &Options, progress: &Progress) -> Result<Worked, Failure> {
         notes.extend(input.notes);
         reading += time;
     }
-    let answers = in_order(options.jobs, joined(series)?, |workspace, series| {
+    let answers = in_order(options.jobs, joined(series)?, |workspace, _, series| {
         let mut answer = Answer::new(workspace, series, options)?;
         if options.plot.is_none() {
             (answer.series.times, answer.series.values) = (vec![], vec![]);

@@ -2,6 +2,7 @@
 
 mod answer;
 mod arguments;
+mod closed;
 mod columns;
 mod demo;
 mod explain;
@@ -17,6 +18,7 @@ mod plain;
 mod plot;
 mod progress;
 mod read;
+mod say;
 mod series;
 mod text;
 mod time;
@@ -31,6 +33,7 @@ use arguments::{Command, HELP};
 use failure::Failure;
 use options::Options;
 use progress::Progress;
+use say::{put, say};
 use text::excerpt;
 
 fn main() -> ExitCode {
@@ -46,7 +49,7 @@ fn main() -> ExitCode {
     match command.and_then(run) {
         Ok(()) => ExitCode::SUCCESS,
         Err(failure) => {
-            eprintln!("figures: {failure}");
+            say(&failure);
             failure.status()
         }
     }
@@ -72,9 +75,7 @@ fn figures(options: &Options) -> Result<(), Failure> {
         plot::write(path, &[(&answers, options)])?;
     }
     write::figures(&answers, options)?;
-    for note in notes {
-        eprintln!("figures: {note}");
-    }
+    notes.iter().for_each(say);
     if options.stats {
         stats(&answers, reading, begin.elapsed());
     }
@@ -99,6 +100,9 @@ fn stats(answers: &[Answer], reading: Duration, writing: Duration) {
     let count: u64 = answers.iter().map(|answer| answer.count).sum();
     let core: Duration = answers.iter().map(|answer| answer.core).sum();
     let [reading, core, writing] = [reading, core, writing].map(|time| time.as_secs_f64());
-    eprintln!("{} series, {readings} readings, {figures} figures, {count} scanned", answers.len());
-    eprintln!("reading {reading:.3} s, core {core:.3} s, writing {writing:.3} s");
+    put(&format!(
+        "{} series, {readings} readings, {figures} figures, {count} scanned\n\
+         reading {reading:.3} s, core {core:.3} s, writing {writing:.3} s\n",
+        answers.len()
+    ));
 }

@@ -4,8 +4,12 @@ use std::fs::{self, File};
 use std::io::{self, BufWriter, ErrorKind, StdoutLock, Write, stdout};
 use std::process;
 
+use crate::closed::was_closed;
 use crate::failure::Failure;
 use crate::places::resolved;
+
+/// The operating system's number for what is no open file.
+const BAD_FILE: i32 = 9;
 
 /// Writes a file beside its place and moves it there once it is whole. What is no plain file, such
 /// as a device, is written to as it stands.
@@ -39,6 +43,10 @@ fn filled(file: File, fill: impl FnOnce(&mut BufWriter<File>) -> io::Result<()>)
 pub fn output(
     fill: impl FnOnce(&mut BufWriter<StdoutLock>) -> io::Result<()>,
 ) -> Result<(), Failure> {
+    if was_closed() {
+        let error = io::Error::from_raw_os_error(BAD_FILE);
+        return Err(Failure::file("standard output", error));
+    }
     let mut out = BufWriter::with_capacity(1 << 16, stdout().lock());
     match fill(&mut out).and_then(|()| out.flush()) {
         Err(error) if error.kind() != ErrorKind::BrokenPipe => {
