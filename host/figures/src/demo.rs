@@ -48,8 +48,10 @@ fn answers(text: &[u8], line: &str) -> Result<(Vec<Answer>, Options), Failure> {
     let Command::Figures(options) = arguments::parse(arguments)? else {
         unreachable!("the line names files and options only")
     };
-    let series = read::csv(&options.files[0], text, &options.chosen, &Progress::default())?.series;
+    let progress = Progress::default();
+    let input = read::csv(&options.files[0], text, &options.chosen, &progress)?;
     let mut workspace = Workspace::new();
-    let answers = series.into_iter().map(|s| Answer::new(&mut workspace, s, &options));
+    let answers = |series| Answer::new(&mut workspace, 1, series, &options, &progress);
+    let answers = input.series.into_iter().map(answers);
     Ok((answers.collect::<Result<_, _>>()?, options))
 }

@@ -98,11 +98,13 @@ fn stats(answers: &[Answer], reading: Duration, writing: Duration) {
     let readings: usize = answers.iter().map(|answer| answer.readings).sum();
     let figures: usize = answers.iter().flat_map(|a| &a.figures).map(Vec::len).sum();
     let count: u64 = answers.iter().map(|answer| answer.count).sum();
+    let jobs = answers.iter().map(|answer| answer.jobs).max().unwrap_or(1);
     let core: Duration = answers.iter().map(|answer| answer.core).sum();
     let [reading, core, writing] = [reading, core, writing].map(|time| time.as_secs_f64());
     put(&format!(
         "{} series, {readings} readings, {figures} figures, {count} scanned\n\
-         reading {reading:.3} s, core {core:.3} s, writing {writing:.3} s\n",
+         reading {reading:.3} s, core {core:.3} s, writing {writing:.3} s, up to {jobs} jobs for a \
+         series\n",
         answers.len()
     ));
 }
