@@ -11,7 +11,8 @@ use crate::joined::joined;
 use crate::options::Options;
 use crate::progress::Progress;
 use crate::read;
-use crate::series::Series;
+use crate::refused::refused;
+use crate::series::{self, Series};
 
 /// The figures of one series.
 #[derive(Debug)]
@@ -47,7 +48,7 @@ impl Answer {
     ) -> Result<Answer, Failure> {
         let settings = options.settings(&series)?;
         let begin = Instant::now();
-        let refused = |refusal| series.refused(refusal);
+        let refused = |refusal| refused(&series, &settings, refusal);
         let settled = settle(&series.times, &settings).map_err(refused)?;
         progress.expect(options.rollups.len() * settled.points);
         let worth = worth(series.times.len(), span(&series.times), settled);
@@ -182,7 +183,9 @@ pub fn all(options: &Options, progress: &Progress) -> Result<Worked, Failure> {
         notes.extend(input.notes);
         reading += time;
     }
-    let answers = in_order(options.jobs, joined(series)?, |workspace, jobs, series| {
+    let series = joined(series)?;
+    notes.extend(series::seconds(&series));
+    let answers = in_order(options.jobs, series, |workspace, jobs, series| {
         let mut answer = Answer::new(workspace, jobs, series, options, progress)?;
         if options.plot.is_none() {
             (answer.series.times, answer.series.values) = (vec![], vec![]);

@@ -8,6 +8,7 @@ use harzoulin::{Rollup, Settings};
 use crate::columns::Chosen;
 use crate::failure::Failure;
 use crate::options::{Format, Options};
+use crate::rollups;
 use crate::text::excerpt;
 use crate::time::{self, Form};
 
@@ -188,7 +189,7 @@ impl Given {
                 };
             }
         }
-        self.read("--rollup", str::parse)?.ok_or_else(|| usage("expected --rollup NAME"))
+        self.read("--rollup", rollups::parse)?.ok_or_else(|| usage("expected --rollup NAME"))
     }
 
     fn options(&self) -> Result<Options, Failure> {

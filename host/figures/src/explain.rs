@@ -2,10 +2,11 @@
 
 use std::fmt::Write;
 
-use harzoulin::{SettledSettings, Workspace, settle};
+use harzoulin::{Settings, SettledSettings, Workspace, settle};
 
 use crate::failure::Failure;
 use crate::options::Options;
+use crate::refused::refused;
 use crate::series::Series;
 use crate::text::visible;
 use crate::time::{Stamp, format_duration};
@@ -16,15 +17,16 @@ const SHOWN: usize = 10;
 
 /// What is to be said of the figure at a time.
 pub fn text(series: &Series, options: &Options, at: i64) -> Result<String, Failure> {
-    let refused = |refusal| series.refused(refusal);
     let settings = options.settings(series)?;
-    let settled = settle(&series.times, &settings).map_err(refused)?;
+    let settled = settle(&series.times, &settings);
+    let settled = settled.map_err(|refusal| refused(series, &settings, refusal))?;
     let only = SettledSettings { start: at, end: at, ..settings.settled(settled) };
     let mut workspace = Workspace::new();
     let (times, values) = (&series.times, &series.values);
     let rollup = options.rollups[0];
     let run = workspace.settled_run(times, values, options.pre, rollup, &only);
-    let run = run.map_err(refused)?;
+    let settings = Settings { start: at, end: at, ..settings };
+    let run = run.map_err(|refusal| refused(series, &settings, refusal))?;
 
     let form = options.times.unwrap_or(series.form);
     let stamp = |time| Stamp(time, form);

@@ -18,6 +18,8 @@ mod plain;
 mod plot;
 mod progress;
 mod read;
+mod refused;
+mod rollups;
 mod say;
 mod series;
 mod text;
@@ -84,13 +86,18 @@ fn figures(options: &Options) -> Result<(), Failure> {
 
 fn explain(options: &Options, at: i64) -> Result<(), Failure> {
     let progress = Progress::default();
-    let mut texts = vec![];
+    let (mut files, mut notes) = (vec![], vec![]);
     for file in &options.files {
-        for series in read::file(file, &options.chosen, &progress)?.series {
-            texts.push(explain::text(&series, options, at)?);
-        }
+        let input = read::file(file, &options.chosen, &progress)?;
+        files.push(input.series);
+        notes.extend(input.notes);
     }
-    output::text(&texts.join("\n"))
+    let series = joined::joined(files)?;
+    notes.extend(series::seconds(&series));
+    let texts = series.iter().map(|series| explain::text(series, options, at));
+    output::text(&texts.collect::<Result<Vec<_>, _>>()?.join("\n"))?;
+    notes.iter().for_each(say);
+    Ok(())
 }
 
 /// Sizes and times on standard error; with several jobs, times are summed over them.

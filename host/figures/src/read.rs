@@ -287,7 +287,7 @@ mod tests {
             seed = seed.wrapping_mul(6_364_136_223_846_793_005).wrapping_add(1);
             let random = (seed >> 33) as usize;
             // One time in so many any of the texts, else one of the first two.
-            texts[random / 64 % if random as u64 % usual == 0 { texts.len() } else { 2 }]
+            texts[random / 64 % if (random as u64).is_multiple_of(usual) { texts.len() } else { 2 }]
                 .to_string()
         };
         let mut plain = 0;

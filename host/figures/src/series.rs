@@ -2,11 +2,8 @@
 
 use std::path::Path;
 
-use harzoulin::Refusal;
-
-use crate::failure::Failure;
 use crate::text::excerpt;
-use crate::time::Form;
+use crate::time::{DAY, Form};
 
 /// The readings of one name.
 #[derive(Debug)]
@@ -64,21 +61,32 @@ impl Series {
         &self.sources[0].file
     }
 
+    /// Whether its times, written in milliseconds, lie in January 1970, as those do that are seconds.
+    pub fn may_be_seconds(&self) -> bool {
+        let inside = |time: &i64| (0..31 * DAY).contains(time);
+        let ends = self.times.first().zip(self.times.last());
+        self.form == Form::Millis && ends.is_some_and(|(a, b)| inside(a) && inside(b))
+    }
+
     /// The file and the line of a reading.
-    fn place(&self, reading: usize) -> String {
+    pub fn place(&self, reading: usize) -> String {
         let sources = self.sources.partition_point(|source| source.first <= reading);
         let source = &self.sources[sources - 1];
         format!("{}:{}", source.file, source.lines.of(reading - source.first))
     }
+}
 
-    /// The message of a refusal: the file, the line and the name, where there are such.
-    pub fn refused(&self, refusal: Refusal) -> Failure {
-        let mut place = refusal.reading().map_or(self.file().into(), |reading| self.place(reading));
-        if let Some(name) = &self.name {
-            place += &format!(": series {}", excerpt(name));
-        }
-        Failure::Input(format!("{place}: {refusal}"))
-    }
+/// A note where times of series may be seconds.
+pub fn seconds(all: &[Series]) -> Option<String> {
+    let found: Vec<&Series> = all.iter().filter(|series| series.may_be_seconds()).collect();
+    let first = found.first()?;
+    let name = first.name.as_ref().map(|name| format!(": series {}", excerpt(name)));
+    let more = if found.len() > 1 { format!(" and {} more", found.len() - 1) } else { "".into() };
+    Some(format!(
+        "{}{}{more}: all times lie in January 1970: are they seconds? Times are milliseconds",
+        first.file(),
+        name.unwrap_or_default()
+    ))
 }
 
 /// The line of each reading, as runs of readings on consecutive lines: the first reading of each

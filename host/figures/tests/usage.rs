@@ -22,7 +22,7 @@ fn messages() {
     refused("--rollup avg --stats=1 -", "--stats is no option");
     refused(
         "--rollup mean --step 1m -",
-        "--rollup: expected the name of a rollup, such as avg, found \"mean\"",
+        "--rollup: expected a rollup, perhaps avg, found \"mean\"",
     );
     refused(
         "--rollup quantile --step 1m -",

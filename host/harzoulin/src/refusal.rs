@@ -97,7 +97,8 @@ impl Refusal {
         }
     }
 
-    fn sentence(self) -> &'static str {
+    /// What the row says.
+    pub fn sentence(self) -> &'static str {
         match self {
             Refusal::Lengths => "times and values differ in length",
             Refusal::Readings => "the series has over 16,777,216 readings",

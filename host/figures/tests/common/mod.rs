@@ -13,6 +13,11 @@ pub struct Outcome {
     pub errors: String,
 }
 
+/// The warning that readings of the first days of 1970 get, on standard input.
+#[allow(dead_code)]
+pub const SECONDS: &str = "figures: standard input: all times lie in January 1970: are they seconds? \
+                           Times are milliseconds\n";
+
 /// Runs the command in a folder, with a text as standard input. Arguments are parted by spaces.
 pub fn figures_in(folder: &Path, arguments: &str, input: &[u8]) -> Outcome {
     let mut child = Command::new(env!("CARGO_BIN_EXE_figures"))
