@@ -116,9 +116,11 @@ fn find(
         None => usual.iter().any(|name| field.eq_ignore_ascii_case(name)),
     };
     let places: Vec<usize> = (0..fields.len()).filter(|place| is_named(fields[*place])).collect();
-    match (one_of(fields, what, &places)?, chosen) {
-        (None, Some(name)) => Err(format!("expected a header with a column {}", excerpt(name))),
-        (place, _) => Ok(place),
+    match (chosen.map(excerpt), places.len()) {
+        (None, _) => one_of(fields, what, &places),
+        (Some(_), 1) => Ok(Some(places[0])),
+        (Some(name), 0) => Err(format!("expected a header with a column {name}")),
+        (Some(name), count) => Err(format!("expected one column {name}, found {count}")),
     }
 }
 

@@ -214,7 +214,7 @@ impl<'a> Reader<'a> {
         }
         if self.without > 0 {
             let count = self.without;
-            notes.push(format!("{}: {count} lines without a figure (NaN) left out", self.file));
+            notes.push(format!("{}: lines without a figure (NaN), left out: {count}", self.file));
         }
         Input { series: self.all, notes }
     }

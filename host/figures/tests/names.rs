@@ -94,7 +94,7 @@ fn no_figure_is_no_reading() {
     assert!(
         outcome
             .errors
-            .contains("figures: standard input: 2 lines without a figure (NaN) left out\n"),
+            .contains("figures: standard input: lines without a figure (NaN), left out: 2\n"),
         "{}",
         outcome.errors
     );
