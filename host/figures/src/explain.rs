@@ -30,11 +30,12 @@ pub fn text(series: &Series, options: &Options, at: i64) -> Result<String, Failu
 
     let form = options.times.unwrap_or(series.form);
     let stamp = |time| Stamp(time, form);
+    let exact = |number| Number(number, None);
     let reading = |place: usize| {
         let (time, value, prepared) = (stamp(times[place]), values[place], run.prepared[place]);
         match value.to_bits() == prepared.to_bits() {
-            true => format!("{time}  {}", Number(value)),
-            false => format!("{time}  {} from {}", Number(prepared), Number(value)),
+            true => format!("{time}  {}", exact(value)),
+            false => format!("{time}  {} from {}", exact(prepared), exact(value)),
         }
     };
     let left = at - only.window;
@@ -69,6 +70,6 @@ pub fn text(series: &Series, options: &Options, at: i64) -> Result<String, Failu
     }
     line("after", if after < times.len() { reading(after) } else { "none".into() });
     let answer = run.values[0];
-    line("answer", format!("{}  bits {:#018x}", Number(answer), answer.to_bits()));
+    line("answer", format!("{}  bits {:#018x}", exact(answer), answer.to_bits()));
     Ok(out)
 }

@@ -8,6 +8,7 @@ mod demo;
 mod explain;
 mod failure;
 mod fields;
+mod given;
 mod jobs;
 mod joined;
 mod list;

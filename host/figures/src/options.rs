@@ -18,6 +18,8 @@ pub enum Format {
     Csv,
     /// A table for each series.
     Text,
+    /// An object for each output time, on a line.
+    Json,
 }
 
 /// The options of a run.
@@ -36,6 +38,8 @@ pub struct Options {
     pub format: Format,
     /// Whether CSV has how many readings stand behind each figure.
     pub readings: bool,
+    /// Digits after the point; else the shortest text that reads back to the same bits.
+    pub decimals: Option<usize>,
     pub times: Option<Form>,
     pub output: Option<String>,
     pub plot: Option<String>,
@@ -58,6 +62,7 @@ impl Options {
             min_readings: 0,
             format: Format::Csv,
             readings: false,
+            decimals: None,
             times: None,
             output: None,
             plot: None,

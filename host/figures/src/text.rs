@@ -24,7 +24,7 @@ pub fn visible(text: &str) -> String {
 }
 
 /// Control characters, marks of direction and of format, and what XML does not allow.
-fn is_hidden(letter: char) -> bool {
+pub fn is_hidden(letter: char) -> bool {
     letter.is_control()
         || matches!(
             letter,

@@ -188,9 +188,20 @@ fn the_demo_writes_tables_and_a_picture() {
     let stored = |name: &str| std::fs::read_to_string(root.join("docs").join(name)).unwrap();
     assert_eq!(format!("$ host/run demo\n{}", outcome.output), stored("demo.txt"));
     assert_eq!(folder.read("demo.svg"), stored("demo.svg"));
-    for line in outcome.output.lines().filter_map(|line| line.strip_prefix("figures ")) {
+    let lines = outcome.output.lines().filter_map(|line| line.strip_prefix("$ host/run "));
+    let lines: Vec<&str> = lines.collect();
+    assert_eq!(lines.len(), 3);
+    for line in lines {
         let table = figures_in(&root, line, b"");
         assert_eq!(table.status, 0);
         assert!(outcome.output.contains(&table.output), "{line}");
     }
+}
+
+/// The demo's picture, wherever it is made, is no change of the repository; that of docs/ is.
+#[test]
+fn git_does_not_see_the_demo_s_picture() {
+    let rules = std::fs::read_to_string(data().join("../.gitignore")).unwrap();
+    let rules: Vec<&str> = rules.lines().collect();
+    assert!(rules.contains(&"demo.svg") && rules.contains(&"!docs/demo.svg"), "{rules:?}");
 }

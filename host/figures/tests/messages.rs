@@ -59,7 +59,10 @@ fn refusals_of_settings() {
         "refusal 9: the point limit lies outside 0 to 2^50: 1125899906842625",
     );
     of("--step 1m --max-points -1", "refusal 9: the point limit lies outside 0 to 2^50: -1");
-    of("--step 1m --per-call 65536", "refusal 9: the per-call number is over 65,535: 65536");
+    of(
+        "--step 1m --per-call 65536 --stats",
+        "refusal 9: the per-call number is over 65,535: 65536",
+    );
     of(
         "--step 1ms --max-points 5",
         "refusal 10: the grid has more output times than the point limit allows: 60001, limit 5",

@@ -42,7 +42,7 @@ fn they_are_the_core_s_own_count() {
         "--step 1s --adjust-window",
         "--step 30s --default-rollup --lookback 2s",
         "--step 5s --pre intervals",
-        "--step 5s --per-call 7",
+        "--step 5s --per-call 7 --stats",
     ] {
         let counts = output(&format!("--rollup count {settings} -"));
         let shown = output(&format!("--rollup max --readings {settings} -"));

@@ -27,7 +27,7 @@ pub fn all(answers: &[Answer], options: &Options, out: &mut impl Write) -> io::R
         for place in 0..answer.points() {
             write!(out, "{name}{}", Stamp(answer.time(place), form))?;
             for figures in &answer.figures {
-                write!(out, ",{}", Number(figures[place]))?;
+                write!(out, ",{}", Number(figures[place], options.decimals))?;
             }
             if options.readings {
                 write!(out, ",{}", answer.behind[place])?;

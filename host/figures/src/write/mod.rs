@@ -1,6 +1,7 @@
-//! Figures as CSV or as tables of text.
+//! Figures as CSV, as JSON or as tables of text.
 
 mod csv;
+mod json;
 mod table;
 
 use std::fmt;
@@ -23,19 +24,26 @@ pub fn figures(answers: &[Answer], options: &Options) -> Result<(), Failure> {
 fn all(answers: &[Answer], options: &Options, out: &mut impl Write) -> io::Result<()> {
     match options.format {
         Format::Csv => csv::all(answers, options, out),
+        Format::Json => json::all(answers, options, out),
         Format::Text => answers.iter().try_for_each(|answer| table(answer, options, out)),
     }
 }
 
-/// The shortest text that reads back to the same bits: std's, with an exponent for what is very
-/// large or very small.
-pub struct Number(pub f64);
+/// A number with so many digits after the point, or else as the shortest text that reads back to the
+/// same bits: std's, with an exponent for what is very large or very small.
+pub struct Number(pub f64, pub Option<usize>);
 
 impl fmt::Display for Number {
     fn fmt(&self, f: &mut fmt::Formatter) -> fmt::Result {
-        let Number(number) = self;
-        let plain = *number == 0.0 || (1e-6..1e21).contains(&number.abs());
-        if plain || !number.is_finite() { write!(f, "{number}") } else { write!(f, "{number:e}") }
+        let Number(number, decimals) = *self;
+        let (small, large) = (number.abs() < 1e-6 && number != 0.0, number.abs() >= 1e21);
+        match decimals {
+            _ if !number.is_finite() => write!(f, "{number}"),
+            Some(digits) if large => write!(f, "{number:.digits$e}"),
+            Some(digits) => write!(f, "{number:.digits$}"),
+            None if large || small => write!(f, "{number:e}"),
+            None => write!(f, "{number}"),
+        }
     }
 }
 
@@ -50,12 +58,12 @@ mod tests {
             bits = bits.wrapping_mul(6_364_136_223_846_793_005).wrapping_add(1);
             let number = f64::from_bits(bits);
             if !number.is_nan() {
-                let text = Number(number).to_string();
+                let text = Number(number, None).to_string();
                 assert_eq!(text.parse().map(f64::to_bits), Ok(bits), "{text}");
             }
         }
         let texts = [0.0, -0.0, 0.1, 1e21, 1e-7, 123456.0, f64::NAN, f64::INFINITY]
-            .map(|number| Number(number).to_string());
+            .map(|number| Number(number, None).to_string());
         assert_eq!(texts, ["0", "-0", "0.1", "1e21", "1e-7", "123456", "NaN", "inf"]);
     }
 }

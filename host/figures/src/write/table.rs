@@ -17,7 +17,7 @@ pub fn table(answer: &Answer, options: &Options, out: &mut impl Write) -> io::Re
     let stamp = |place: usize| Stamp(answer.time(place), form).to_string();
     let mut columns = vec![column("time", places.clone().map(stamp))];
     for (rollup, figures) in options.rollups.iter().zip(&answer.figures) {
-        let numbers = figures.iter().map(|figure| Number(*figure).to_string());
+        let numbers = figures.iter().map(|figure| Number(*figure, options.decimals).to_string());
         columns.push(column(&rollup.to_string(), numbers));
     }
     columns.push(column(READINGS, answer.behind.iter().map(|count| count.to_string())));
