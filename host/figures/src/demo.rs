@@ -7,6 +7,7 @@ use harzoulin::Workspace;
 use crate::answer::Answer;
 use crate::arguments::{self, Command};
 use crate::failure::Failure;
+use crate::files::Files;
 use crate::options::Options;
 use crate::progress::Progress;
 use crate::{output, plot, read, write};
@@ -37,14 +38,16 @@ pub fn run(picture: &str) -> Result<(), Failure> {
         SERIES.into_iter().map(|(text, line, unit)| answers(text, line, unit)).collect();
     let series = series?;
     let drawn: Vec<_> = series.iter().map(|(answers, options)| (&answers[..], options)).collect();
-    plot::write(picture, &drawn)?;
+    let mut files = Files::default();
+    plot::write(picture, &drawn, &mut files)?;
     output::output(|out| {
         for ((answers, options), (_, line, _)) in series.iter().zip(SERIES) {
             writeln!(out, "$ host/run {line}")?;
             answers.iter().try_for_each(|answer| write::table(answer, options, out))?;
         }
         writeln!(out, "The picture is {picture}.")
-    })
+    })?;
+    files.put()
 }
 
 fn answers(text: &[u8], line: &str, unit: &str) -> Result<(Vec<Answer>, Options), Failure> {

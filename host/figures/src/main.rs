@@ -5,9 +5,11 @@ mod arguments;
 mod closed;
 mod columns;
 mod demo;
+mod ended;
 mod explain;
 mod failure;
 mod fields;
+mod files;
 mod given;
 mod jobs;
 mod joined;
@@ -34,6 +36,7 @@ use std::time::{Duration, Instant};
 use answer::{Answer, Worked};
 use arguments::{Command, HELP};
 use failure::Failure;
+use files::Files;
 use options::Options;
 use progress::Progress;
 use say::{put, say};
@@ -74,10 +77,12 @@ fn figures(options: &Options) -> Result<(), Failure> {
     let Worked { answers, notes, reading } =
         Progress::default().shown(|progress| answer::all(options, progress))?;
     let begin = Instant::now();
+    let mut files = Files::default();
     if let Some(path) = &options.plot {
-        plot::write(path, &[(&answers, options)])?;
+        plot::write(path, &[(&answers, options)], &mut files)?;
     }
-    write::figures(&answers, options)?;
+    write::figures(&answers, options, &mut files)?;
+    files.put()?;
     notes.iter().for_each(say);
     if options.stats {
         stats(&answers, reading, begin.elapsed());

@@ -11,8 +11,8 @@ use harzoulin::{Rollup, Step, Unit};
 
 use crate::answer::Answer;
 use crate::failure::Failure;
+use crate::files::Files;
 use crate::options::Options;
-use crate::output::whole;
 use crate::time::format_duration;
 use axis::Axis;
 use curve::SINGLE;
@@ -40,7 +40,11 @@ const STYLE: &str = "text{font:12px sans-serif;fill:#333}.title{font-weight:bold
 .window.thin{stroke-dasharray:3 3}.figure.thin{fill:#fff;stroke:#d95f02}.figures.thin{stroke-opacity:.4}";
 
 /// Writes a picture of all the answers, with a part for each series and rollup.
-pub fn write(path: &str, groups: &[(&[Answer], &Options)]) -> Result<(), Failure> {
+pub fn write(
+    path: &str,
+    groups: &[(&[Answer], &Options)],
+    files: &mut Files,
+) -> Result<(), Failure> {
     let panels: Vec<_> = groups
         .iter()
         .flat_map(|(answers, options)| answers.iter().map(move |answer| (answer, *options)))
@@ -58,7 +62,7 @@ pub fn write(path: &str, groups: &[(&[Answer], &Options)]) -> Result<(), Failure
         svg += &Picture::new(answer, options, rollup, HEIGHT * place as f64).draw();
     }
     svg += "</svg>\n";
-    whole(path, |out| out.write_all(svg.as_bytes()))
+    files.write(path, |out| out.write_all(svg.as_bytes()))
 }
 
 /// The part of the picture that belongs to a series and a rollup.

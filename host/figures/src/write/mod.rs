@@ -9,14 +9,15 @@ use std::io::{self, Write};
 
 use crate::answer::Answer;
 use crate::failure::Failure;
+use crate::files::Files;
 use crate::options::{Format, Options};
-use crate::output::{output, whole};
+use crate::output::output;
 pub use table::table;
 
 /// Writes the figures where the options say.
-pub fn figures(answers: &[Answer], options: &Options) -> Result<(), Failure> {
+pub fn figures(answers: &[Answer], options: &Options, files: &mut Files) -> Result<(), Failure> {
     match &options.output {
-        Some(path) => whole(path, |out| all(answers, options, out)),
+        Some(path) => files.write(path, |out| all(answers, options, out)),
         None => output(|out| all(answers, options, out)),
     }
 }
