@@ -9,6 +9,7 @@ use crate::failure::Failure;
 use crate::jobs::in_order;
 use crate::joined::joined;
 use crate::options::Options;
+use crate::plot;
 use crate::progress::Progress;
 use crate::read;
 use crate::refused::refused;
@@ -184,6 +185,7 @@ pub fn all(options: &Options, progress: &Progress) -> Result<Worked, Failure> {
         reading += time;
     }
     let series = joined(series)?;
+    plot::fits(options, series.len())?;
     notes.extend(series::seconds(&series));
     let answers = in_order(options.jobs, series, |workspace, jobs, series| {
         let mut answer = Answer::new(workspace, jobs, series, options, progress)?;

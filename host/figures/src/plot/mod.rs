@@ -3,9 +3,11 @@
 
 mod axis;
 mod curve;
+mod panel;
 
 use std::fmt::Write as _;
 use std::io::Write as _;
+use std::ops::Range;
 
 use harzoulin::{Rollup, Step, Unit};
 
@@ -13,13 +15,20 @@ use crate::answer::Answer;
 use crate::failure::Failure;
 use crate::files::Files;
 use crate::options::Options;
+use crate::text::visible;
 use crate::time::format_duration;
 use axis::Axis;
 use curve::SINGLE;
+use panel::Panel;
 
 const WIDTH: f64 = 1000.0;
-const LEFT: f64 = 90.0;
+/// The frames end here, and begin here or where the longest mark has room.
 const RIGHT: f64 = 960.0;
+const LEFT: f64 = 90.0;
+/// The room of the label beside a panel, of a letter, and between a mark and the frame.
+const LABEL: f64 = 24.0;
+const LETTER: f64 = 7.0;
+const SPACE: f64 = 6.0;
 /// The heights of a series: its title, the two panels with what lies between, the times.
 const TITLE: f64 = 34.0;
 const READINGS: f64 = 170.0;
@@ -38,6 +47,20 @@ const STYLE: &str = "text{font:12px sans-serif;fill:#333}.title{font-weight:bold
 .none{stroke:#78909c;stroke-width:1.5}\
 .figures{fill:none;stroke:#d95f02;stroke-width:1.2;stroke-linejoin:round;stroke-linecap:round}\
 .window.thin{stroke-dasharray:3 3}.figure.thin{fill:#fff;stroke:#d95f02}.figures.thin{stroke-opacity:.4}";
+
+/// The most parts of a picture.
+const PARTS: usize = 24;
+
+/// An error where a picture would have too many parts to be looked at.
+pub fn fits(options: &Options, series: usize) -> Result<(), Failure> {
+    let parts = series * options.rollups.len();
+    match &options.plot {
+        Some(path) if parts > PARTS => Err(Failure::Input(format!(
+            "--plot {path}: expected at most {PARTS} series and rollups for a picture, found {parts}"
+        ))),
+        _ => Ok(()),
+    }
+}
 
 /// Writes a picture of all the answers, with a part for each series and rollup.
 pub fn write(
@@ -77,7 +100,10 @@ struct Picture<'a> {
     /// The first and the last time that are shown.
     low: i64,
     high: i64,
-    /// From times to places.
+    /// The readings, and the figures below them.
+    panels: [Panel; 2],
+    /// Where the frames begin, and from times to places.
+    left: f64,
     x: Axis,
     svg: String,
 }
@@ -95,10 +121,20 @@ impl<'a> Picture<'a> {
             Some(_) => end,
             None => times.last().map_or(end, |last| end.max(*last)),
         };
-        let x = Axis::new(low as f64, high as f64, LEFT, RIGHT);
         let (rollup, figures) = (options.rollups[rollup], &answer.figures[rollup]);
-        let full = FULL * usual(&answer.behind);
-        Picture { answer, options, rollup, figures, full, top, low, high, x, svg: String::new() }
+        let shown = &answer.series.values[shown(times, low, high)];
+        let above = Panel::of_numbers(top + TITLE, READINGS, shown);
+        let below = match rollup.about().unit {
+            Unit::Unix => Panel::of_times,
+            _ => Panel::of_numbers,
+        };
+        let below = below(above.bottom + BETWEEN, FIGURES, figures);
+        let panels = [above, below];
+        let longest = panels.iter().map(Panel::longest).max().unwrap_or(0);
+        let left = LEFT.max(LABEL + LETTER * longest as f64 + SPACE);
+        let x = Axis::new(low as f64, high as f64, left, RIGHT);
+        let (full, svg) = (FULL * usual(&answer.behind), String::new());
+        Picture { answer, options, rollup, figures, full, top, low, high, panels, left, x, svg }
     }
 
     /// Whether a figure is of far fewer readings than the others.
@@ -111,63 +147,65 @@ impl<'a> Picture<'a> {
     }
 
     fn text(&mut self, x: f64, y: f64, attributes: &str, text: &str) {
-        let text = text.replace('&', "&amp;").replace('<', "&lt;").replace('>', "&gt;");
+        let text = visible(text).replace('&', "&amp;").replace('<', "&lt;").replace('>', "&gt;");
         self.put(format_args!("<text x=\"{x}\" y=\"{y}\" {attributes}>{text}</text>"));
     }
 
     fn draw(mut self) -> String {
-        let (answer, options) = (self.answer, self.options);
-        let title = format!(
-            "{}: {} of windows of {}, one every {}",
-            answer.name(),
-            self.rollup,
-            format_duration(answer.settled.window),
-            format_duration(answer.settings.step)
-        );
-        self.text(LEFT, self.top + 22.0, "class=\"title\"", &title);
-        let above = (self.top + TITLE, self.top + TITLE + READINGS);
-        let below = (above.1 + BETWEEN, above.1 + BETWEEN + FIGURES);
-        self.gaps([above, below]);
-        self.times([above, below]);
-        let unit = &options.unit;
+        self.text(self.left, self.top + 22.0, "class=\"title\"", &self.title());
+        self.gaps();
+        self.times();
+        let unit = &self.options.unit;
         let label = if unit.is_empty() { "readings".into() } else { format!("readings, {unit}") };
-        let y = self.frame(above, &answer.series.values[self.shown()], &label);
-        self.readings(&y);
-        let label = match unit_of(options.pre, self.rollup, unit) {
+        self.frame(0, &label);
+        self.readings();
+        let label = match unit_of(self.options.pre, self.rollup, unit) {
             unit if unit.is_empty() => self.rollup.to_string(),
             unit => format!("{}, {unit}", self.rollup),
         };
-        let y = self.frame(below, self.figures, &label);
-        self.figures(&y, below.1);
+        self.frame(1, &label);
+        self.figures();
         self.svg
     }
 
-    /// The frame of a panel with its marks and its label, and the axis of its numbers.
-    fn frame(&mut self, (top, bottom): (f64, f64), numbers: &[f64], label: &str) -> Axis {
-        let finite = || numbers.iter().copied().filter(|number| number.is_finite());
-        let (low, high) = finite().fold((f64::MAX, f64::MIN), |(l, h), n| (l.min(n), h.max(n)));
-        let (low, high) = if low <= high { (low, high) } else { (0.0, 1.0) };
-        let y = Axis::new(low, high, bottom - 8.0, top + 8.0);
-        for (place, text) in y.marks() {
-            self.put(format_args!("<path class=\"mark\" d=\"M{LEFT} {place}H{RIGHT}\"/>"));
-            self.text(LEFT - 6.0, place + 4.0, "text-anchor=\"end\"", &text);
+    /// The series, the rollup and the step that prepares its values, the window and the grid.
+    fn title(&self) -> String {
+        let pre = match self.options.pre {
+            Step::None => String::new(),
+            pre => format!(" after {pre}"),
+        };
+        format!(
+            "{}: {}{pre} of windows of {}, one every {}",
+            self.answer.name(),
+            self.rollup,
+            format_duration(self.answer.settled.window),
+            format_duration(self.answer.settings.step)
+        )
+    }
+
+    /// The frame of a panel with its marks and its label.
+    fn frame(&mut self, panel: usize, label: &str) {
+        let left = self.left;
+        let Panel { top, bottom, ref marks, .. } = self.panels[panel];
+        for (place, text) in marks.clone() {
+            self.put(format_args!("<path class=\"mark\" d=\"M{left} {place}H{RIGHT}\"/>"));
+            self.text(left - SPACE, place + 4.0, "text-anchor=\"end\"", &text);
         }
-        let (width, height) = (RIGHT - LEFT, bottom - top);
+        let (width, height) = (RIGHT - left, bottom - top);
         self.put(format_args!(
-            "<rect class=\"frame\" x=\"{LEFT}\" y=\"{top}\" width=\"{width}\" height=\"{height}\"/>"
+            "<rect class=\"frame\" x=\"{left}\" y=\"{top}\" width=\"{width}\" height=\"{height}\"/>"
         ));
         let middle = (top + bottom) / 2.0;
         let turned = format!("text-anchor=\"middle\" transform=\"rotate(-90 16 {middle})\"");
         self.text(16.0, middle, &turned, label);
-        y
     }
 
     /// Round times: lines through both panels, and their text below.
-    fn times(&mut self, panels: [(f64, f64); 2]) {
-        let bottom = panels[1].1;
-        for (time, text) in axis::times(self.low, self.high) {
+    fn times(&mut self) {
+        let bottom = self.panels[1].bottom;
+        for (time, text) in axis::times(self.low, self.high, 8) {
             let x = self.x.place(time as f64);
-            for (top, bottom) in panels {
+            for (top, bottom) in self.heights() {
                 self.put(format_args!("<path class=\"mark\" d=\"M{x} {top}V{bottom}\"/>"));
             }
             self.text(x, bottom + 16.0, "text-anchor=\"middle\"", &text);
@@ -180,8 +218,19 @@ impl<'a> Picture<'a> {
             _ => "line: the figures, pale if of few readings; ",
         };
         let legend = format!("{legend}tick at the bottom: no figure");
-        self.text(LEFT, bottom + 32.0, "class=\"note\"", &legend);
+        self.text(self.left, bottom + 32.0, "class=\"note\"", &legend);
     }
+
+    /// The top and the bottom of each panel.
+    fn heights(&self) -> [(f64, f64); 2] {
+        self.panels.each_ref().map(|panel| (panel.top, panel.bottom))
+    }
+}
+
+/// The readings from one time to another.
+fn shown(times: &[i64], low: i64, high: i64) -> Range<usize> {
+    let first = times.partition_point(|time| *time < low);
+    first..times.partition_point(|time| *time <= high)
 }
 
 /// The median of how many readings the windows have that have any.
@@ -200,7 +249,7 @@ fn unit_of(pre: Step, rollup: Rollup, unit: &str) -> String {
     };
     match rollup.about().unit {
         Unit::Seconds => "s".into(),
-        Unit::Unix => "s since 1970".into(),
+        Unit::Unix => "UTC".into(),
         Unit::Number => String::new(),
         _ if unit.is_empty() => unit,
         Unit::Value => unit,
