@@ -93,13 +93,15 @@ impl<'a> Reader<'a> {
         Reader { file, chosen, columns: None, all, places, last: 0, without: 0 }
     }
 
-    /// Takes in the line that a buffer begins with, if it is a plain one, and gives its length.
+    /// Takes in the line that a buffer begins with, if it is a plain one of a series that is known,
+    /// and gives its length.
     fn plain(&mut self, line: usize, buffer: &[u8]) -> Option<usize> {
-        let series = self.all.get_mut(self.last)?;
         let buffer = &buffer[..buffer.len().min(LINE as usize + 1)];
-        let (time, value, length) = plain::reading(buffer, self.columns.as_ref()?, series)?;
-        series.push(line, time, value);
-        Some(length)
+        let plain = plain::line(buffer, self.columns.as_ref()?)?;
+        let place = self.known(plain.name).filter(|place| self.all[*place].times.len() < MOST)?;
+        self.last = place;
+        self.all[place].push(line, plain.time, plain.value);
+        Some(plain.length)
     }
 
     /// Takes a line in, or says what was expected of it.
@@ -188,18 +190,19 @@ impl<'a> Reader<'a> {
         if name == Some("") {
             return Err("expected a name, found none".into());
         }
-        if self.all.get(self.last).is_some_and(|series| series.name.as_deref() == name) {
-            return Ok(self.last);
-        }
-        self.last = match name.and_then(|name| self.places.get(name)) {
-            Some(place) => *place,
-            None => {
-                self.all.push(Series::new(self.file, name.map(String::from), form));
-                self.places.insert(name.unwrap_or_default().into(), self.all.len() - 1);
-                self.all.len() - 1
-            }
-        };
+        self.last = self.known(name).unwrap_or_else(|| {
+            self.all.push(Series::new(self.file, name.map(String::from), form));
+            self.places.insert(name.unwrap_or_default().into(), self.all.len() - 1);
+            self.all.len() - 1
+        });
         Ok(self.last)
+    }
+
+    /// The index of the series of a name, if there is one. Most often it is the last.
+    fn known(&self, name: Option<&str>) -> Option<usize> {
+        let last = self.all.get(self.last)?;
+        let is_last = last.name.as_deref() == name;
+        if is_last { Some(self.last) } else { self.places.get(name?).copied() }
     }
 
     fn input(mut self) -> Input {
