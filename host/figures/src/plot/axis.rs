@@ -38,7 +38,8 @@ impl Axis {
         let places = (largest.log10().floor() - step.log10().floor()).max(0.0) as usize;
         let first = (self.low / step).ceil() as i64;
         let marks = (first..=first + 10).map(|n| n as f64 * step).take_while(|n| *n <= self.high);
-        let text = |n: f64| match large && n != 0.0 {
+        let text = |n: f64| match large {
+            true if n == 0.0 => "0".into(),
             true => format!("{n:.places$e}"),
             false => format!("{n:.digits$}"),
         };
