@@ -1,4 +1,4 @@
-//! The figures of a series, and how they are worked out from files.
+//! The figures of a series, and of many.
 
 use std::num::NonZero;
 use std::time::{Duration, Instant};
@@ -7,13 +7,10 @@ use harzoulin::{Refusal, Rollup, Settings, Settled, Step, Workspace, settle};
 
 use crate::failure::Failure;
 use crate::jobs::in_order;
-use crate::joined::joined;
 use crate::options::Options;
-use crate::plot;
 use crate::progress::Progress;
-use crate::read;
 use crate::refused::refused;
-use crate::series::{self, Series};
+use crate::series::Series;
 
 /// The figures of one series.
 #[derive(Debug)]
@@ -159,40 +156,17 @@ fn leave_out(figures: &mut [Vec<f64>], behind: &[u32], least: u32) {
     }
 }
 
-/// What was worked out of files.
-#[derive(Debug)]
-pub struct Worked {
-    /// The figures of every series.
-    pub answers: Vec<Answer>,
-    /// What a person should know of how they were read.
-    pub notes: Vec<String>,
-    /// The time that reading took.
-    pub reading: Duration,
-}
-
-/// The figures of every series of the files. The files are shared among the jobs, then the series
-/// are, and a long series where there are jobs left.
-pub fn all(options: &Options, progress: &Progress) -> Result<Worked, Failure> {
-    let files = in_order(options.jobs, options.files.iter().collect(), |_, _, file: &String| {
-        let begin = Instant::now();
-        let input = read::file(file, &options.chosen, progress)?;
-        Ok((input, begin.elapsed()))
-    })?;
-    let (mut series, mut notes, mut reading) = (vec![], vec![], Duration::ZERO);
-    for (input, time) in files {
-        series.push(input.series);
-        notes.extend(input.notes);
-        reading += time;
-    }
-    let series = joined(series)?;
-    plot::fits(options, series.len())?;
-    notes.extend(series::seconds(&series));
-    let answers = in_order(options.jobs, series, |workspace, jobs, series| {
+/// The figures of every series. The jobs share the series, and a long one where there are jobs left.
+pub fn all(
+    series: Vec<Series>,
+    options: &Options,
+    progress: &Progress,
+) -> Result<Vec<Answer>, Failure> {
+    in_order(options.jobs, series, |workspace, jobs, series| {
         let mut answer = Answer::new(workspace, jobs, series, options, progress)?;
         if options.plot.is_none() {
             (answer.series.times, answer.series.values) = (vec![], vec![]);
         }
         Ok(answer)
-    })?;
-    Ok(Worked { answers, notes, reading })
+    })
 }

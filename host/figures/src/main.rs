@@ -11,6 +11,7 @@ mod failure;
 mod fields;
 mod files;
 mod given;
+mod inputs;
 mod jobs;
 mod joined;
 mod list;
@@ -33,10 +34,11 @@ use std::env;
 use std::process::ExitCode;
 use std::time::{Duration, Instant};
 
-use answer::{Answer, Worked};
+use answer::Answer;
 use arguments::{Command, HELP};
 use failure::Failure;
 use files::Files;
+use inputs::Inputs;
 use options::Options;
 use progress::Progress;
 use say::{put, say};
@@ -74,8 +76,11 @@ fn run(command: Command) -> Result<(), Failure> {
 
 fn figures(options: &Options) -> Result<(), Failure> {
     places::distinct(options)?;
-    let Worked { answers, notes, reading } =
-        Progress::default().shown(|progress| answer::all(options, progress))?;
+    let (answers, notes, reading) = Progress::default().shown(|progress| {
+        let Inputs { series, notes, reading } = Inputs::read(options, progress)?;
+        plot::fits(options, series.len())?;
+        Ok((answer::all(series, options, progress)?, notes, reading))
+    })?;
     let begin = Instant::now();
     let mut files = Files::default();
     if let Some(path) = &options.plot {
@@ -91,15 +96,7 @@ fn figures(options: &Options) -> Result<(), Failure> {
 }
 
 fn explain(options: &Options, at: i64) -> Result<(), Failure> {
-    let progress = Progress::default();
-    let (mut files, mut notes) = (vec![], vec![]);
-    for file in &options.files {
-        let input = read::file(file, &options.chosen, &progress)?;
-        files.push(input.series);
-        notes.extend(input.notes);
-    }
-    let series = joined::joined(files)?;
-    notes.extend(series::seconds(&series));
+    let Inputs { series, notes, .. } = Inputs::read(options, &Progress::default())?;
     let texts = series.iter().map(|series| explain::text(series, options, at));
     output::text(&texts.collect::<Result<Vec<_>, _>>()?.join("\n"))?;
     notes.iter().for_each(say);
