@@ -6,7 +6,7 @@ use harzoulin::{Rollup, Settings};
 
 use crate::columns::Chosen;
 use crate::failure::Failure;
-use crate::given::{FIGURES, Given, usage, value};
+use crate::given::{Given, Task, usage, value};
 use crate::options::{Format, Options};
 use crate::rollups;
 use crate::time::{self, Form};
@@ -37,8 +37,10 @@ pub enum Command {
 /// The command of the arguments.
 pub fn parse(arguments: impl Iterator<Item = String>) -> Result<Command, Failure> {
     let mut arguments = arguments.peekable();
-    let named = arguments.next_if(|first| ["explain", "list", "demo"].contains(&first.as_str()));
-    let command = named.as_deref().unwrap_or(FIGURES);
+    let task = arguments.peek().and_then(|first| Task::named(first));
+    if task.is_some() {
+        arguments.next();
+    }
     let mut given = Given::default();
     while let Some(argument) = arguments.next() {
         match argument.as_str() {
@@ -47,23 +49,23 @@ pub fn parse(arguments: impl Iterator<Item = String>) -> Result<Command, Failure
             _ => given.take(argument, &mut arguments)?,
         }
     }
-    given.meaningful(command)?;
-    match command {
-        "list" => given.no_files(command).map(|()| Command::List),
-        "demo" => {
-            given.no_files(command)?;
-            Ok(Command::Demo(picture(&given)?.unwrap_or("demo.svg".into())))
-        }
-        "explain" => {
-            let at = given.read("--at", time::parse)?;
-            let (at, _) = at.ok_or_else(|| usage("expected --at TIME for explain"))?;
-            let options = options(&given)?;
-            match options.rollups.len() {
-                1 => Ok(Command::Explain(options, at)),
-                _ => Err(usage("figures explain takes one rollup")),
-            }
-        }
-        _ => options(&given).map(Command::Figures),
+    let task = task.unwrap_or(Task::Figures);
+    given.meaningful(task)?;
+    match task {
+        Task::Figures => options(&given).map(Command::Figures),
+        Task::Explain => explain(&given),
+        Task::List => Ok(Command::List),
+        Task::Demo => Ok(Command::Demo(picture(&given)?.unwrap_or("demo.svg".into()))),
+    }
+}
+
+fn explain(given: &Given) -> Result<Command, Failure> {
+    let at = given.read("--at", time::parse)?;
+    let (at, _) = at.ok_or_else(|| usage("expected --at TIME for explain"))?;
+    let options = options(given)?;
+    match options.rollups.len() {
+        1 => Ok(Command::Explain(options, at)),
+        _ => Err(usage("figures explain takes one rollup")),
     }
 }
 

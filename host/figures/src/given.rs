@@ -6,30 +6,52 @@ use crate::failure::Failure;
 use crate::text::excerpt;
 use crate::time;
 
-/// An option: whether a value follows it, and the commands that take it.
+/// What options and files are given to.
+#[derive(Clone, Copy, Debug, PartialEq)]
+pub enum Task {
+    Figures,
+    Explain,
+    List,
+    Demo,
+}
+
+impl Task {
+    /// The task of a first argument, if it is the word for one.
+    pub fn named(word: &str) -> Option<Task> {
+        [Task::Explain, Task::List, Task::Demo].into_iter().find(|task| task.word() == word)
+    }
+
+    fn word(self) -> &'static str {
+        match self {
+            Task::Figures => "",
+            Task::Explain => "explain",
+            Task::List => "list",
+            Task::Demo => "demo",
+        }
+    }
+}
+
+/// An option: whether a value follows it, and the tasks that take it.
 struct Known {
     name: &'static str,
     valued: bool,
-    commands: &'static [&'static str],
+    tasks: &'static [Task],
 }
 
-/// What figures of files are called among the commands.
-pub const FIGURES: &str = "FILE";
-
-const fn valued(name: &'static str, commands: &'static [&'static str]) -> Known {
-    Known { name, valued: true, commands }
+const fn valued(name: &'static str, tasks: &'static [Task]) -> Known {
+    Known { name, valued: true, tasks }
 }
 
-const fn flag(name: &'static str, commands: &'static [&'static str]) -> Known {
-    Known { name, valued: false, commands }
+const fn flag(name: &'static str, tasks: &'static [Task]) -> Known {
+    Known { name, valued: false, tasks }
 }
 
-const BOTH: &[&str] = &[FIGURES, "explain"];
-const ALONE: &[&str] = &[FIGURES];
+const ALONE: &[Task] = &[Task::Figures];
+const BOTH: &[Task] = &[Task::Figures, Task::Explain];
 
 const OPTIONS: [Known; 29] = [
     flag("--adjust-window", BOTH),
-    valued("--at", &["explain"]),
+    valued("--at", &[Task::Explain]),
     valued("--decimals", ALONE),
     flag("--default-rollup", BOTH),
     valued("--end", BOTH),
@@ -42,7 +64,7 @@ const OPTIONS: [Known; 29] = [
     valued("--name-column", BOTH),
     valued("--output", ALONE),
     valued("--per-call", ALONE),
-    valued("--plot", &[FIGURES, "demo"]),
+    valued("--plot", &[Task::Figures, Task::Demo]),
     valued("--pre", BOTH),
     valued("--predict-linear", BOTH),
     valued("--quantile", BOTH),
@@ -101,17 +123,19 @@ impl Given {
         Ok(())
     }
 
-    /// An error where an option means nothing to the command, or beside the others.
-    pub fn meaningful(&self, command: &str) -> Result<(), Failure> {
-        for (name, _) in &self.options {
-            let known = OPTIONS.iter().find(|known| known.name == *name);
-            if known.is_some_and(|known| known.commands.contains(&command)) {
-                continue;
+    /// An error where an option or a file means nothing to the task, or beside the others.
+    pub fn meaningful(&self, task: Task) -> Result<(), Failure> {
+        let means = |known: &Known| known.tasks.contains(&task);
+        let known = |name: &str| OPTIONS.iter().find(|known| known.name == name);
+        let nothing = self.options.iter().find(|(name, _)| !known(name).is_some_and(means));
+        let no_files = matches!(task, Task::List | Task::Demo);
+        let file = self.files.first().filter(|_| no_files).map(|file| excerpt(file));
+        match (nothing.map(|(name, _)| name.to_string()).or(file), task.word()) {
+            (None, _) => {}
+            (Some(name), "") => {
+                return Err(usage(format!("{name} means nothing without explain")));
             }
-            return Err(usage(match command {
-                FIGURES => format!("{name} means nothing without explain"),
-                _ => format!("figures {command} takes no {name}"),
-            }));
+            (Some(name), word) => return Err(usage(format!("figures {word} takes no {name}"))),
         }
         let without =
             WITHOUT.into_iter().find(|(name, other)| self.flag(name) && !self.flag(other));
@@ -120,14 +144,6 @@ impl Given {
         }
         match WITH.into_iter().find(|(name, other)| self.flag(name) && self.flag(other)) {
             Some((name, other)) => Err(usage(format!("{name} means nothing with {other}"))),
-            None => Ok(()),
-        }
-    }
-
-    /// An error where there are files.
-    pub fn no_files(&self, command: &str) -> Result<(), Failure> {
-        match self.files.first() {
-            Some(file) => Err(usage(format!("figures {command} takes no {}", excerpt(file)))),
             None => Ok(()),
         }
     }

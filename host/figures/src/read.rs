@@ -248,74 +248,81 @@ mod tests {
         }
     }
 
+    const NAMES: [&str; 15] = [
+        "a",
+        "a",
+        "a",
+        "b",
+        " a ",
+        "a ",
+        "\"a\"",
+        "\"a \"",
+        "\"a\r\"",
+        "a\r",
+        "\"\"\"a\"",
+        "\"a",
+        "#a",
+        "#a",
+        "\"#a\"",
+    ];
+    const TIMES: [&str; 12] = [
+        "5",
+        "60000",
+        "60001",
+        "-5",
+        "+7",
+        " 8",
+        "\"9\"",
+        "2026-01-01",
+        "2026-01-01T00:00:00Z",
+        "99999999999999999999",
+        "000000000000000000001",
+        "",
+    ];
+    const VALUES: [&str; 12] =
+        ["1", "20.5", "-0", "0.1", ".5", "5.", "1e5", "NaN", "\"3\"", "4 ", "-", "1,1"];
+    const ENDS: [&str; 8] = ["\n", "\n", "\n", "\r\n", " \n", "\n\n", "\n#\n", "\r\r\n"];
+
+    /// One of the texts, one time in so many any of them, else one of the first two.
+    fn pick(seed: &mut u64, texts: &[&str], usual: u64) -> String {
+        *seed = seed.wrapping_mul(6_364_136_223_846_793_005).wrapping_add(1);
+        let random = *seed >> 33;
+        let count = if random.is_multiple_of(usual) { texts.len() } else { 2 };
+        texts[random as usize / 64 % count].to_string()
+    }
+
+    /// Some lines, most of them plain.
+    fn text(seed: &mut u64) -> String {
+        let named = pick(seed, &["", "named"], 1) == "named";
+        let mut text = match named {
+            true => pick(seed, &["name,time,value\n", "", "value,time,name\n"], 2),
+            false => pick(seed, &["time,value\n", "", "time,avg\n"], 2),
+        };
+        let turned = text.starts_with("value");
+        for _ in 0..4 {
+            let (name, time) = (pick(seed, &NAMES, 3), pick(seed, &TIMES, 4));
+            let (value, end) = (pick(seed, &VALUES, 4), pick(seed, &ENDS, 3));
+            text += &match (named, turned) {
+                (true, true) => format!("{value},{time},{name}{end}"),
+                (true, false) => format!("{name},{time},{value}{end}"),
+                (false, _) => format!("{time},{value}{end}"),
+            };
+        }
+        text
+    }
+
     /// What is read as a plain line is what the full reader makes of it.
     #[test]
     fn plain_lines_are_read_as_all_others() {
-        const NAMES: [&str; 15] = [
-            "a",
-            "a",
-            "a",
-            "b",
-            " a ",
-            "a ",
-            "\"a\"",
-            "\"a \"",
-            "\"a\r\"",
-            "a\r",
-            "\"\"\"a\"",
-            "\"a",
-            "#a",
-            "#a",
-            "\"#a\"",
-        ];
-        const TIMES: [&str; 12] = [
-            "5",
-            "60000",
-            "60001",
-            "-5",
-            "+7",
-            " 8",
-            "\"9\"",
-            "2026-01-01",
-            "2026-01-01T00:00:00Z",
-            "99999999999999999999",
-            "000000000000000000001",
-            "",
-        ];
-        const VALUES: [&str; 12] =
-            ["1", "20.5", "-0", "0.1", ".5", "5.", "1e5", "NaN", "\"3\"", "4 ", "-", "1,1"];
-        const ENDS: [&str; 8] = ["\n", "\n", "\n", "\r\n", " \n", "\n\n", "\n#\n", "\r\r\n"];
-        let mut seed: u64 = 1;
-        let mut pick = |texts: &[&str], usual: u64| {
-            seed = seed.wrapping_mul(6_364_136_223_846_793_005).wrapping_add(1);
-            let random = (seed >> 33) as usize;
-            // One time in so many any of the texts, else one of the first two.
-            texts[random / 64 % if (random as u64).is_multiple_of(usual) { texts.len() } else { 2 }]
-                .to_string()
-        };
-        let mut plain = 0;
+        let (mut seed, mut accepted) = (1, 0);
+        let (chosen, progress) = (Chosen::default(), Progress::default());
         for _ in 0..30_000 {
-            let named = pick(&["", "named"], 1) == "named";
-            let mut text = match named {
-                true => pick(&["name,time,value\n", "", "value,time,name\n"], 2),
-                false => pick(&["time,value\n", "", "time,avg\n"], 2),
-            };
-            let turned = text.starts_with("value");
-            for _ in 0..4 {
-                let (name, time) = (pick(&NAMES, 3), pick(&TIMES, 4));
-                let (value, end) = (pick(&VALUES, 4), pick(&ENDS, 3));
-                text += &match (named, turned) {
-                    (true, true) => format!("{value},{time},{name}{end}"),
-                    (true, false) => format!("{name},{time},{value}{end}"),
-                    (false, _) => format!("{time},{value}{end}"),
-                };
-            }
-            let all = csv("text", text.as_bytes(), &Chosen::default(), &Progress::default());
-            let full =
-                csv("text", Bytes(text.as_bytes()), &Chosen::default(), &Progress::default());
+            let text = text(&mut seed);
+            let all = csv("text", text.as_bytes(), &chosen, &progress);
+            let full = csv("text", Bytes(text.as_bytes()), &chosen, &progress);
             assert_eq!(format!("{all:?}"), format!("{full:?}"), "{text}");
-            plain += usize::from(all.is_ok());
+            accepted += usize::from(all.is_ok());
         }
-        assert!(plain > 3_000, "{plain}");
+        assert!(accepted > 3_000, "{accepted}");
     }
 }

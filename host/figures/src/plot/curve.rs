@@ -4,12 +4,12 @@ use std::fmt::Write;
 use std::ops::Range;
 
 use super::axis::Axis;
-use super::{Picture, RIGHT, shown};
+use super::part::{Part, RIGHT, shown};
 
 /// Up to so many readings or figures are drawn one by one.
 pub const SINGLE: usize = 400;
 
-impl Picture<'_> {
+impl Part<'_> {
     /// Whether the next reading is missing for long: twice the reach.
     fn silent(&self, place: usize) -> bool {
         let times = &self.answer.series.times;
@@ -60,7 +60,7 @@ impl Picture<'_> {
         }
     }
 
-    /// The figures, as [`single`](Picture::single) ones if they are few, else as a line. Where there
+    /// The figures, as [`single`](Part::single) ones if they are few, else as a line. Where there
     /// is no figure a tick stands at the bottom.
     pub fn figures(&mut self) {
         let bottom = self.panels[1].bottom;
