@@ -75,7 +75,7 @@ fn told_apart(all: &[Series]) -> Result<(), Failure> {
     for series in all {
         let (title, file) = (excerpt(&series.title), series.file());
         if series.title.contains('\n') {
-            let message = format!("{file:?}: expected a name without a line feed");
+            let message = format!("{file}: expected a name without a line feed");
             return Err(Failure::Input(message));
         }
         if let Some(other) = files.insert(&series.title, file) {

@@ -4,9 +4,11 @@
 use std::fmt::Display;
 use std::io::{Write, stderr};
 
-/// A line of the command.
+use crate::text::visible;
+
+/// A line of the command. What names of files hold cannot act on a terminal.
 pub fn say(message: impl Display) {
-    put(&format!("figures: {message}\n"));
+    put(&format!("figures: {}\n", visible(&message.to_string())));
 }
 
 /// A text as it is.

@@ -94,7 +94,7 @@ fn a_file_name_with_a_line_feed() {
         .current_dir(folder.path())
         .output();
     let run = run.unwrap();
-    let errors = "figures: \"a\\nb.csv\": expected a name without a line feed\n";
+    let errors = "figures: a\\nb.csv: expected a name without a line feed\n";
     assert_eq!((run.status.code(), str::from_utf8(&run.stderr).unwrap()), (Some(1), errors));
 }
 

@@ -54,12 +54,15 @@ fn thirty_years() {
     let folder = common::Folder::new("long");
     write(&folder, READINGS);
     for (name, step, figures) in [("1d", DAY, READINGS / 1440 + 2), ("1m", MINUTE, READINGS)] {
-        let (seconds, stats) = run(&folder, &format!("--rollup avg --step {name} --jobs 1"));
-        assert!(stats.starts_with(&format!("1 series, {READINGS} readings, ")), "{stats}");
-        let lines = folder.read("out.csv").lines().count() as i64;
-        assert!((lines - 1 - figures).abs() <= 1, "{lines}");
-        let rate = READINGS as f64 / seconds / 1e6;
-        println!("--step {name}: {seconds:.2} s, {rate:.1} million readings a second\n{stats}");
+        for jobs in [1, 2] {
+            let line = format!("--rollup avg --step {name} --jobs {jobs}");
+            let (seconds, stats) = run(&folder, &line);
+            assert!(stats.starts_with(&format!("1 series, {READINGS} readings, ")), "{stats}");
+            let lines = folder.read("out.csv").lines().count() as i64;
+            assert!((lines - 1 - figures).abs() <= 1, "{lines}");
+            let rate = READINGS as f64 / seconds / 1e6;
+            println!("{line}: {seconds:.2} s, {rate:.1} million readings a second\n{stats}");
+        }
         println!("harzoulin_run alone, in memory at hand: {:.3} s\n", core(step));
     }
 }
