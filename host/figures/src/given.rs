@@ -200,3 +200,25 @@ pub fn value<T, E: ToString>(
 pub fn usage(message: impl Into<String>) -> Failure {
     Failure::Usage(message.into())
 }
+
+#[cfg(test)]
+mod tests {
+    use super::*;
+    use crate::arguments::HELP;
+
+    /// The help text has each option, with a value where it takes one.
+    #[test]
+    fn the_help_is_complete() {
+        for known in &OPTIONS {
+            let (_, after) = HELP.split_once(&format!("  {} ", known.name)).unwrap_or_else(|| {
+                HELP.split_once(&format!(" {} ", known.name)).expect(known.name)
+            });
+            let valued = after.starts_with(|letter: char| letter.is_ascii_alphabetic());
+            assert_eq!(valued, known.valued, "{}", known.name);
+        }
+        let listed = HELP.split_whitespace().filter(|word| word.starts_with("--"));
+        for word in listed {
+            assert!(OPTIONS.iter().any(|known| known.name == word.trim_end_matches(':')), "{word}");
+        }
+    }
+}

@@ -6,7 +6,7 @@ use common::{Folder, Outcome, figures_in};
 
 /// The picture of readings.
 fn picture(readings: &str, options: &str) -> String {
-    let folder = Folder::new(&format!("picture-{}", options.len() + 1000 * readings.len()));
+    let folder = Folder::new("picture");
     folder.write("in.csv", readings);
     let line = format!("{options} --plot p.svg --output o.csv in.csv");
     let outcome = figures_in(folder.path(), &line, b"");

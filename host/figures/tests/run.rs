@@ -13,7 +13,7 @@ use common::Folder;
 /// Status, standard output and standard error of host/run, where `rt` and `cargo build` end with
 /// these statuses.
 fn run(rt: u8, build: u8) -> (Option<i32>, String, String) {
-    let folder = Folder::new(&format!("run-{rt}-{build}"));
+    let folder = Folder::new("run");
     let path = |name: &str| folder.path().join(name);
     for name in ["host", "bin", "crates"] {
         fs::create_dir(path(name)).unwrap();
