@@ -32,34 +32,22 @@ pub fn joined(files: Vec<Vec<Series>>) -> Result<Vec<Series>, Failure> {
 
 /// Of files with one name the titles get their folders, as many as tell them apart.
 fn add_folders(all: &mut [Series]) {
-    let mut open: Vec<usize> = (0..all.len()).filter(|place| all[*place].name.is_none()).collect();
-    for length in 1.. {
-        let mut groups: HashMap<String, Vec<usize>> = HashMap::new();
-        for place in open.drain(..) {
-            groups.entry(title(all[place].file(), length)).or_default().push(place);
-        }
-        let longest = |place: &usize| parts(all[*place].file()).len();
-        let alike = groups.values().filter(|group| group.len() > 1).flatten();
-        if length >= alike.clone().map(longest).max().unwrap_or(0) {
-            open.clear();
-        } else {
-            open.extend(alike);
-        }
-        for (title, group) in groups {
-            for place in group {
-                all[place].title.clone_from(&title);
-            }
-        }
-        if open.is_empty() {
-            break;
-        }
+    let paths: Vec<Vec<String>> = all.iter().map(|series| parts(series.file())).collect();
+    let unnamed = all.iter_mut().zip(&paths).filter(|(series, _)| series.name.is_none());
+    let unnamed: Vec<_> = unnamed.collect();
+    let mut counts: HashMap<&[String], usize> = HashMap::new();
+    for end in unnamed.iter().flat_map(|(_, path)| ends(path)) {
+        *counts.entry(end).or_default() += 1;
+    }
+    for (series, path) in unnamed {
+        let own = ends(path).find(|end| counts[end] == 1);
+        series.title = own.unwrap_or(path).join("/");
     }
 }
 
-/// The last parts of a path, so many, without the extension.
-fn title(file: &str, length: usize) -> String {
-    let parts = parts(file);
-    parts[parts.len().saturating_sub(length)..].join("/")
+/// The last part of a path, the last two, and so on to the whole.
+fn ends(path: &[String]) -> impl Iterator<Item = &[String]> {
+    (0..path.len()).rev().map(|first| &path[first..])
 }
 
 /// The parts of a path, the last without its extension.
