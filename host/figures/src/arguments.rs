@@ -1,16 +1,21 @@
 //! The command line.
 
 use std::num::NonZero;
-use std::str::FromStr;
 
 use harzoulin::{Rollup, Settings};
 
+use crate::columns::Chosen;
 use crate::failure::Failure;
+use crate::given::{Given, Task, usage, value};
 use crate::options::{Format, Options};
+use crate::rollups;
 use crate::time::{self, Form};
 
 /// What `figures --help` prints.
 pub const HELP: &str = include_str!("help.txt");
+
+/// The most digits after the point that can be asked for.
+const DECIMALS: usize = 20;
 
 /// What is to be done.
 #[derive(Debug)]
@@ -32,8 +37,8 @@ pub enum Command {
 /// The command of the arguments.
 pub fn parse(arguments: impl Iterator<Item = String>) -> Result<Command, Failure> {
     let mut arguments = arguments.peekable();
-    let first = arguments.peek().cloned().unwrap_or_default();
-    if ["explain", "list", "demo"].contains(&first.as_str()) {
+    let task = arguments.peek().and_then(|first| Task::named(first));
+    if task.is_some() {
         arguments.next();
     }
     let mut given = Given::default();
@@ -44,182 +49,138 @@ pub fn parse(arguments: impl Iterator<Item = String>) -> Result<Command, Failure
             _ => given.take(argument, &mut arguments)?,
         }
     }
-    match first.as_str() {
-        "list" => given.alone(&first, &[]).map(|()| Command::List),
-        "demo" => {
-            given.alone(&first, &["--plot"])?;
-            Ok(Command::Demo(given.text("--plot").unwrap_or("demo.svg").into()))
-        }
-        "explain" => {
-            let at = given.read("--at", time::parse)?;
-            let (at, _) = at.ok_or_else(|| usage("expected --at TIME for explain"))?;
-            Ok(Command::Explain(given.options()?, at))
-        }
-        _ if given.text("--at").is_some() => Err(usage("--at belongs to figures explain")),
-        _ => given.options().map(Command::Figures),
+    let task = task.unwrap_or(Task::Figures);
+    given.meaningful(task)?;
+    match task {
+        Task::Figures => options(&given).map(Command::Figures),
+        Task::Explain => explain(&given),
+        Task::List => Ok(Command::List),
+        Task::Demo => Ok(Command::Demo(picture(&given)?.unwrap_or("demo.svg".into()))),
     }
 }
 
-const VALUED: [&str; 20] = [
-    "--at",
-    "--end",
-    "--format",
-    "--holt-winters",
-    "--jobs",
-    "--lookback",
-    "--max-points",
-    "--output",
-    "--per-call",
-    "--plot",
-    "--pre",
-    "--predict-linear",
-    "--quantile",
-    "--rollup",
-    "--staleness",
-    "--start",
-    "--step",
-    "--times",
-    "--unit",
-    "--window",
+fn explain(given: &Given) -> Result<Command, Failure> {
+    let at = given.read("--at", time::parse)?;
+    let (at, _) = at.ok_or_else(|| usage("expected --at TIME for explain"))?;
+    let options = options(given)?;
+    match options.rollups.len() {
+        1 => Ok(Command::Explain(options, at)),
+        _ => Err(usage("figures explain takes one rollup")),
+    }
+}
+
+/// The rollups that have parameters by an option of their own.
+const PARAMETERS: [(&str, &str); 3] = [
+    ("--quantile", "quantile"),
+    ("--predict-linear", "predict_linear"),
+    ("--holt-winters", "holt_winters"),
 ];
-const FLAGS: [&str; 3] = ["--adjust-window", "--default-rollup", "--stats"];
 
-/// The options as they were written.
-#[derive(Default)]
-struct Given {
-    options: Vec<(String, String)>,
-    files: Vec<String>,
+/// The rollups, each once.
+fn chosen_rollups(given: &Given) -> Result<Vec<Rollup>, Failure> {
+    let by_option: Vec<_> = PARAMETERS.iter().filter(|(option, _)| given.flag(option)).collect();
+    match by_option[..] {
+        [] => {}
+        [(option, name)] => return parameters(given, option, name).map(|rollup| vec![rollup]),
+        [(first, _), (second, _), ..] => {
+            return Err(usage(format!("expected one of {first} and {second}")));
+        }
+    }
+    let mut rollups = vec![];
+    for text in given.texts("--rollup") {
+        let rollup = value("--rollup", text, rollups::parse)?;
+        if rollups.contains(&rollup) {
+            return Err(usage(format!("--rollup {rollup} is given twice")));
+        }
+        rollups.push(rollup);
+    }
+    if rollups.is_empty() { Err(usage("expected --rollup NAME")) } else { Ok(rollups) }
 }
 
-impl Given {
-    /// Takes an argument, and the next one if that is its value.
-    fn take(
-        &mut self,
-        argument: String,
-        rest: &mut impl Iterator<Item = String>,
-    ) -> Result<(), Failure> {
-        if argument == "-" || !argument.starts_with('-') {
-            self.files.push(argument);
-            return Ok(());
-        }
-        let (name, value) = match argument.split_once('=') {
-            Some((name, value)) => (name.to_string(), Some(value.to_string())),
-            None => (argument, None),
-        };
-        let value = if VALUED.contains(&name.as_str()) {
-            value
-                .or_else(|| rest.next())
-                .ok_or_else(|| usage(format!("{name}: expected a value")))?
-        } else if FLAGS.contains(&name.as_str()) && value.is_none() {
-            String::new()
-        } else {
-            return Err(usage(format!("{name} is no option")));
-        };
-        self.options.push((name, value));
-        Ok(())
-    }
-
-    /// The value of an option, the last of several.
-    fn text(&self, name: &str) -> Option<&str> {
-        let found = self.options.iter().rev().find(|(given, _)| given == name);
-        found.map(|(_, value)| value.as_str())
-    }
-
-    fn flag(&self, name: &str) -> bool {
-        self.text(name).is_some()
-    }
-
-    /// The value of an option as a function reads it.
-    fn read<T, E: ToString>(
-        &self,
-        name: &str,
-        read: impl Fn(&str) -> Result<T, E>,
-    ) -> Result<Option<T>, Failure> {
-        let value = self.text(name).map(|text| {
-            read(text).map_err(|e| usage(format!("{name}: {}, found {text:?}", e.to_string())))
-        });
-        value.transpose()
-    }
-
-    fn duration(&self, name: &str) -> Result<Option<i64>, Failure> {
-        self.read(name, time::parse_duration)
-    }
-
-    fn number<T: FromStr>(&self, name: &str) -> Result<Option<T>, Failure> {
-        self.read(name, |text| text.parse().map_err(|_| "expected a whole number"))
-    }
-
-    /// An error if anything but these options is given.
-    fn alone(&self, command: &str, options: &[&str]) -> Result<(), Failure> {
-        let mut names = self.options.iter().map(|(name, _)| name).chain(&self.files);
-        match names.find(|name| !options.contains(&name.as_str())) {
-            Some(name) => Err(usage(format!("figures {command} takes no {name}"))),
-            None => Ok(()),
+/// The rollup whose parameters an option has. Its name may be given besides, but no other.
+fn parameters(given: &Given, option: &str, name: &str) -> Result<Rollup, Failure> {
+    let full = |parameters: &str| format!("{name}({parameters})").parse::<Rollup>();
+    let rollup = given.read(option, full)?.ok_or_else(|| usage("expected --rollup NAME"))?;
+    match given.texts("--rollup").all(|other| other == name) {
+        true => Ok(rollup),
+        false => {
+            Err(usage(format!("expected --rollup {rollup} beside other rollups, found {option}")))
         }
     }
+}
 
-    fn rollup(&self) -> Result<Rollup, Failure> {
-        let named = self.text("--rollup");
-        for (option, name) in [
-            ("--quantile", "quantile"),
-            ("--predict-linear", "predict_linear"),
-            ("--holt-winters", "holt_winters"),
-        ] {
-            let full = |parameters: &str| format!("{name}({parameters})").parse();
-            if let Some(rollup) = self.read(option, full)? {
-                return match named {
-                    Some(other) if other != name => {
-                        Err(usage(format!("expected one rollup, found {other} and {name}")))
-                    }
-                    _ => Ok(rollup),
-                };
-            }
-        }
-        self.read("--rollup", str::parse)?.ok_or_else(|| usage("expected --rollup NAME"))
+fn options(given: &Given) -> Result<Options, Failure> {
+    if given.files.is_empty() {
+        return Err(usage("expected a file, or - for standard input"));
     }
+    if given.files.iter().filter(|file| *file == "-").count() > 1 {
+        return Err(usage("expected - once"));
+    }
+    let window = given.duration("--window")?;
+    let step = given.duration("--step")?.or(window);
+    let rollups = chosen_rollups(given)?;
+    let step = step.ok_or_else(|| usage("expected --step or --window"))?;
+    let mut options = Options::new(rollups, step);
+    options.files.clone_from(&given.files);
+    let [time, value, name] = ["--time-column", "--value-column", "--name-column"]
+        .map(|option| given.text(option).map(String::from));
+    options.chosen = Chosen { time, value, name };
+    options.pre = given.read("--pre", str::parse)?.unwrap_or_default();
+    options.start = given.read("--start", time::parse)?.map(|(time, _)| time);
+    options.end = given.read("--end", time::parse)?.map(|(time, _)| time);
+    options.settings = Settings {
+        window: window.unwrap_or(0),
+        may_adjust_window: given.flag("--adjust-window"),
+        is_default_rollup: given.flag("--default-rollup"),
+        lookback_delta: given.duration("--lookback")?.unwrap_or(0),
+        min_staleness_interval: given.duration("--staleness")?.unwrap_or(0),
+        max_points_per_series: given.number("--max-points")?.unwrap_or(0),
+        samples_scanned_per_call: given.number("--per-call")?.unwrap_or(0),
+        ..options.settings
+    };
+    options.min_readings = given.positive("--min-readings")?.map_or(0, NonZero::get);
+    options.jobs = given.positive("--jobs")?.map_or(options.jobs, NonZero::get);
+    options.stats = given.flag("--stats");
+    shown(given, &mut options)?;
+    Ok(options)
+}
 
-    fn options(&self) -> Result<Options, Failure> {
-        if self.files.is_empty() {
-            return Err(usage("expected a file, or - for standard input"));
-        }
-        if self.files.iter().filter(|file| *file == "-").count() > 1 {
-            return Err(usage("expected - once"));
-        }
-        let window = self.duration("--window")?;
-        let step = self.duration("--step")?.or(window);
-        let step = step.ok_or_else(|| usage("expected --step or --window"))?;
-        let mut options = Options::new(self.rollup()?, step);
-        options.files.clone_from(&self.files);
-        options.pre = self.read("--pre", str::parse)?.unwrap_or_default();
-        options.start = self.read("--start", time::parse)?.map(|(time, _)| time);
-        options.end = self.read("--end", time::parse)?.map(|(time, _)| time);
-        options.settings = Settings {
-            window: window.unwrap_or(0),
-            may_adjust_window: self.flag("--adjust-window"),
-            is_default_rollup: self.flag("--default-rollup"),
-            lookback_delta: self.duration("--lookback")?.unwrap_or(0),
-            min_staleness_interval: self.duration("--staleness")?.unwrap_or(0),
-            max_points_per_series: self.number("--max-points")?.unwrap_or(0),
-            samples_scanned_per_call: self.number("--per-call")?.unwrap_or(0),
-            ..options.settings
-        };
-        options.format = self.read("--format", format)?.unwrap_or_default();
-        options.times = self.read("--times", form)?;
-        options.output = self.text("--output").filter(|file| *file != "-").map(String::from);
-        options.plot = self.text("--plot").map(String::from);
-        options.unit = self.text("--unit").unwrap_or_default().into();
-        let jobs: Option<NonZero<usize>> = self.number("--jobs")?;
-        options.jobs = jobs.map_or(options.jobs, NonZero::get);
-        options.stats = self.flag("--stats");
-        Ok(options)
+/// How figures are shown, and where.
+fn shown(given: &Given, options: &mut Options) -> Result<(), Failure> {
+    options.format = given.read("--format", format)?.unwrap_or_default();
+    options.readings = given.flag("--readings");
+    if options.readings && options.format != Format::Csv {
+        let format = given.text("--format").unwrap_or_default();
+        let message = format!("--readings means nothing with --format {format}, which has them");
+        return Err(usage(message));
     }
+    options.decimals = given.read("--decimals", decimals)?;
+    options.times = given.read("--times", form)?;
+    options.output = given.text("--output").filter(|file| *file != "-").map(String::from);
+    options.plot = picture(given)?;
+    options.unit = given.text("--unit").unwrap_or_default().into();
+    Ok(())
+}
+
+/// The file of the picture.
+fn picture(given: &Given) -> Result<Option<String>, Failure> {
+    given.read("--plot", |file| match file {
+        "-" => Err("expected a file"),
+        _ => Ok(file.to_string()),
+    })
+}
+
+fn decimals(text: &str) -> Result<usize, String> {
+    let number = text.parse().ok().filter(|number| *number <= DECIMALS);
+    number.ok_or_else(|| format!("expected a whole number up to {DECIMALS}"))
 }
 
 fn format(text: &str) -> Result<Format, &'static str> {
     match text {
         "csv" => Ok(Format::Csv),
         "text" => Ok(Format::Text),
-        _ => Err("expected csv or text"),
+        "json" => Ok(Format::Json),
+        _ => Err("expected csv, text or json"),
     }
 }
 
@@ -229,8 +190,4 @@ fn form(text: &str) -> Result<Form, &'static str> {
         "rfc3339" => Ok(Form::Rfc3339),
         _ => Err("expected ms or rfc3339"),
     }
-}
-
-fn usage(message: impl Into<String>) -> Failure {
-    Failure::Usage(message.into())
 }

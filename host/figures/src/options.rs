@@ -5,6 +5,7 @@ use std::thread;
 
 use harzoulin::{Rollup, Settings, Step};
 
+use crate::columns::Chosen;
 use crate::failure::Failure;
 use crate::series::Series;
 use crate::time::Form;
@@ -17,19 +18,28 @@ pub enum Format {
     Csv,
     /// A table for each series.
     Text,
+    /// An object for each output time, on a line.
+    Json,
 }
 
 /// The options of a run.
 #[derive(Clone, Debug)]
 pub struct Options {
     pub files: Vec<String>,
+    pub chosen: Chosen,
     pub pre: Step,
-    pub rollup: Rollup,
+    pub rollups: Vec<Rollup>,
     pub start: Option<i64>,
     pub end: Option<i64>,
     /// The settings but for start and end.
     pub settings: Settings,
+    /// A figure of fewer readings is left out.
+    pub min_readings: u32,
     pub format: Format,
+    /// Whether CSV has how many readings stand behind each figure.
+    pub readings: bool,
+    /// Digits after the point; else the shortest text that reads back to the same bits.
+    pub decimals: Option<usize>,
     pub times: Option<Form>,
     pub output: Option<String>,
     pub plot: Option<String>,
@@ -39,16 +49,20 @@ pub struct Options {
 }
 
 impl Options {
-    /// Options for a rollup with windows that meet one another.
-    pub fn new(rollup: Rollup, step: i64) -> Options {
+    /// Options for rollups with windows that meet one another.
+    pub fn new(rollups: Vec<Rollup>, step: i64) -> Options {
         Options {
             files: vec![],
+            chosen: Chosen::default(),
             pre: Step::None,
-            rollup,
+            rollups,
             start: None,
             end: None,
             settings: Settings { step, ..Settings::default() },
+            min_readings: 0,
             format: Format::Csv,
+            readings: false,
+            decimals: None,
             times: None,
             output: None,
             plot: None,
@@ -56,6 +70,11 @@ impl Options {
             jobs: thread::available_parallelism().map_or(1, NonZero::get),
             stats: false,
         }
+    }
+
+    /// Whether the readings behind each figure are counted.
+    pub fn counts_readings(&self) -> bool {
+        self.readings || self.min_readings > 0 || self.plot.is_some() || self.format != Format::Csv
     }
 
     /// The settings for a series: its own grid where none is given.
@@ -68,7 +87,7 @@ impl Options {
         let end = self.end.or_else(|| whole(series.times.last()));
         let (Some(start), Some(end)) = (start, end) else {
             let message = "expected a reading, or --start and --end";
-            return Err(Failure::Input(format!("{}: {message}", series.file)));
+            return Err(Failure::Input(format!("{}: {message}", series.file())));
         };
         Ok(Settings { start, end, ..self.settings })
     }

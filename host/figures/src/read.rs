@@ -2,30 +2,52 @@
 //! comments from `#` on are let through. A header may give the columns in any order; without one
 //! they are time, value or name, time, value.
 
+use std::borrow::Cow;
 use std::collections::HashMap;
 use std::fs::File;
 use std::io::{self, BufRead, BufReader, Read};
 
-use crate::columns::{Columns, quoted};
+use harzoulin::{MOST, Refusal};
+
+use crate::columns::{Chosen, Columns};
 use crate::failure::Failure;
+use crate::fields::split;
 use crate::plain;
 use crate::progress::Progress;
 use crate::series::Series;
-use crate::time;
+use crate::text::excerpt;
+use crate::time::{self, Form};
 
-/// The series of a file, `-` for standard input, in the order in which they begin.
-pub fn file(path: &str, progress: &Progress) -> Result<Vec<Series>, Failure> {
-    if path == "-" {
-        return csv("standard input", io::stdin().lock(), progress);
-    }
-    let input = File::open(path).map_err(|error| Failure::file(path, error))?;
-    csv(path, input, progress)
+/// The most bytes of a line, without its end.
+const LINE: u64 = 65_536;
+
+/// What a file holds.
+#[derive(Debug)]
+pub struct Input {
+    /// The series, in the order in which they begin; one without readings where there is none.
+    pub series: Vec<Series>,
+    /// What a person should know of how they were read.
+    pub notes: Vec<String>,
 }
 
-/// The series of a text; one without readings where there is none.
-pub fn csv(name: &str, input: impl Read, progress: &Progress) -> Result<Vec<Series>, Failure> {
+/// What a file holds, `-` for standard input.
+pub fn file(path: &str, chosen: &Chosen, progress: &Progress) -> Result<Input, Failure> {
+    if path == "-" {
+        return csv("standard input", io::stdin().lock(), chosen, progress);
+    }
+    let input = File::open(path).map_err(|error| Failure::file(path, error))?;
+    csv(path, input, chosen, progress)
+}
+
+/// What a text holds.
+pub fn csv(
+    name: &str,
+    input: impl Read,
+    chosen: &Chosen,
+    progress: &Progress,
+) -> Result<Input, Failure> {
     let mut input = BufReader::with_capacity(1 << 20, input);
-    let mut reader = Reader::new(name);
+    let mut reader = Reader::new(name, chosen);
     let mut bytes = vec![];
     for line in 1.. {
         let filled = input.fill_buf();
@@ -37,8 +59,11 @@ pub fn csv(name: &str, input: impl Read, progress: &Progress) -> Result<Vec<Seri
             input.consume(length);
         } else {
             bytes.clear();
-            match input.read_until(b'\n', &mut bytes) {
+            match input.by_ref().take(LINE + 1).read_until(b'\n', &mut bytes) {
                 Ok(0) => break,
+                Ok(length) if length as u64 > LINE && !bytes.ends_with(b"\n") => {
+                    Err("expected a line of at most 65,536 bytes".into())
+                }
                 Ok(_) => reader.line(line, &bytes),
                 Err(error) => return Err(Failure::file(name, error)),
             }
@@ -48,31 +73,35 @@ pub fn csv(name: &str, input: impl Read, progress: &Progress) -> Result<Vec<Seri
             progress.read(65_536);
         }
     }
-    if reader.all.is_empty() {
-        reader.all.push(Series::new(name, None, time::Form::Rfc3339));
-    }
-    Ok(reader.all)
+    Ok(reader.input())
 }
 
 struct Reader<'a> {
     file: &'a str,
+    chosen: &'a Chosen,
     columns: Option<Columns>,
     all: Vec<Series>,
     places: HashMap<String, usize>,
     last: usize,
+    /// The lines of figures that have none.
+    without: usize,
 }
 
 impl<'a> Reader<'a> {
-    fn new(file: &'a str) -> Reader<'a> {
-        Reader { file, columns: None, all: vec![], places: HashMap::new(), last: 0 }
+    fn new(file: &'a str, chosen: &'a Chosen) -> Reader<'a> {
+        let (all, places) = (vec![], HashMap::new());
+        Reader { file, chosen, columns: None, all, places, last: 0, without: 0 }
     }
 
-    /// Takes in the line that a buffer begins with, if it is a plain one, and gives its length.
+    /// Takes in the line that a buffer begins with, if it is a plain one of a series that is known,
+    /// and gives its length.
     fn plain(&mut self, line: usize, buffer: &[u8]) -> Option<usize> {
-        let series = self.all.get_mut(self.last)?;
-        let (time, value, length) = plain::reading(buffer, self.columns?, series)?;
-        series.push(line, time, value);
-        Some(length)
+        let buffer = &buffer[..buffer.len().min(LINE as usize + 1)];
+        let plain = plain::line(buffer, self.columns.as_ref()?)?;
+        let place = self.known(plain.name).filter(|place| self.all[*place].times.len() < MOST)?;
+        self.last = place;
+        self.all[place].push(line, plain.time, plain.value);
+        Some(plain.length)
     }
 
     /// Takes a line in, or says what was expected of it.
@@ -82,73 +111,127 @@ impl<'a> Reader<'a> {
             _ => bytes,
         };
         let bytes = bytes.trim_ascii();
-        if bytes.is_empty() || bytes[0] == b'#' {
+        if bytes.is_empty() {
             return Ok(());
         }
-        if bytes.contains(&b'"') {
-            let fields = quoted(utf8(bytes)?)?;
-            return self.fields(line, fields.iter().map(|field| field.as_bytes()));
+        if bytes[0] == b'#' {
+            return self.comment(bytes);
         }
-        self.fields(line, bytes.split(|byte| *byte == b','))
+        let text = str::from_utf8(bytes).map_err(|_| "expected UTF-8 text")?;
+        let fields = split(text)?;
+        if self.columns.is_none() && self.header(&fields)? {
+            return Ok(());
+        }
+        self.row(line, &fields)
     }
 
-    fn fields<'f>(
-        &mut self,
-        line: usize,
-        fields: impl Iterator<Item = &'f [u8]>,
-    ) -> Result<(), String> {
-        let mut row = [""; 3];
-        let mut count = 0;
-        for field in fields {
-            if let Some(place) = row.get_mut(count) {
-                *place = utf8(field.trim_ascii())?;
-            }
-            count += 1;
-        }
-        let Some(columns) = self.columns else {
-            let (columns, header) = Columns::of(&row, count)?;
-            self.columns = Some(columns);
-            return if header { Ok(()) } else { self.row(line, columns, row) };
+    /// An error where a comment may be a reading of a series whose name begins with `#`.
+    fn comment(&self, bytes: &[u8]) -> Result<(), String> {
+        let fields = str::from_utf8(bytes).ok().and_then(|text| split(text).ok());
+        let Some(fields) = fields else {
+            return Ok(());
         };
-        if count != columns.count {
-            return Err(columns.expected(count));
+        let usual = Columns::usual(fields.len());
+        match self.columns.as_ref().or(usual.as_ref()) {
+            Some(columns)
+                if columns.name == Some(0)
+                    && columns.count == fields.len()
+                    && reading(&fields, columns).is_ok() =>
+            {
+                Err("expected a comment or a reading, found what may be either: a name that begins \
+                     with # stands in quotes"
+                    .into())
+            }
+            _ => Ok(()),
         }
-        self.row(line, columns, row)
     }
 
-    fn row(&mut self, line: usize, columns: Columns, row: [&str; 3]) -> Result<(), String> {
-        let (time, value) = (row[columns.time], row[columns.value]);
-        let (time, form) =
-            time::parse(time).map_err(|expected| format!("{expected}, found {time:?}"))?;
-        let value =
-            value.parse().map_err(|_| format!("expected a number as value, found {value:?}"))?;
-        let place = self.place(columns.name.map(|column| row[column]), form)?;
+    /// Takes the columns from the first line, and says whether it is a header.
+    fn header(&mut self, fields: &[Cow<str>]) -> Result<bool, String> {
+        let named = Columns::named(fields, self.chosen)?;
+        let is_header = named.is_some();
+        self.columns = Some(named.or_else(|| Columns::usual(fields.len())).ok_or_else(|| {
+            format!(
+                "expected two fields, time and value, or three with a name before them, separated \
+                 by commas, found {}",
+                fields.len()
+            )
+        })?);
+        Ok(is_header)
+    }
+
+    /// Takes a reading in.
+    fn row(&mut self, line: usize, fields: &[Cow<str>]) -> Result<(), String> {
+        let columns = self.columns.as_ref().expect("the first line gave them");
+        if fields.len() != columns.count {
+            return Err(columns.expected(fields.len()));
+        }
+        let (time, form, value) =
+            reading(fields, columns).map_err(|expected| {
+                match Columns::named(fields, self.chosen) {
+                    Ok(Some(_)) => "expected a reading, found a header".into(),
+                    _ => expected,
+                }
+            })?;
+        if columns.figures && value.is_nan() {
+            self.without += 1;
+            return Ok(());
+        }
+        let place = self.place(columns.name.map(|column| &*fields[column]), form)?;
+        if self.all[place].times.len() == MOST {
+            return Err(Refusal::Readings.to_string());
+        }
         self.all[place].push(line, time, value);
         Ok(())
     }
 
     /// The index of the series of a name, which is a new one if need be.
-    fn place(&mut self, name: Option<&str>, form: time::Form) -> Result<usize, String> {
+    fn place(&mut self, name: Option<&str>, form: Form) -> Result<usize, String> {
         if name == Some("") {
             return Err("expected a name, found none".into());
         }
-        if self.all.get(self.last).is_some_and(|series| series.name.as_deref() == name) {
-            return Ok(self.last);
-        }
-        self.last = match name.and_then(|name| self.places.get(name)) {
-            Some(place) => *place,
-            None => {
-                self.all.push(Series::new(self.file, name.map(String::from), form));
-                self.places.insert(name.unwrap_or_default().into(), self.all.len() - 1);
-                self.all.len() - 1
-            }
-        };
+        self.last = self.known(name).unwrap_or_else(|| {
+            self.all.push(Series::new(self.file, name.map(String::from), form));
+            self.places.insert(name.unwrap_or_default().into(), self.all.len() - 1);
+            self.all.len() - 1
+        });
         Ok(self.last)
+    }
+
+    /// The index of the series of a name, if there is one. Most often it is the last.
+    fn known(&self, name: Option<&str>) -> Option<usize> {
+        let last = self.all.get(self.last)?;
+        let is_last = last.name.as_deref() == name;
+        if is_last { Some(self.last) } else { self.places.get(name?).copied() }
+    }
+
+    fn input(mut self) -> Input {
+        if self.all.is_empty() {
+            self.all.push(Series::new(self.file, None, Form::Rfc3339));
+        }
+        let mut notes = vec![];
+        let unused = self.columns.map_or(vec![], |columns| columns.unused);
+        if !unused.is_empty() {
+            let names: Vec<String> = unused.iter().map(|name| excerpt(name)).collect();
+            notes.push(format!("{}: columns that are not used: {}", self.file, names.join(", ")));
+        }
+        if self.without > 0 {
+            let count = self.without;
+            notes.push(format!("{}: lines without a figure (NaN), left out: {count}", self.file));
+        }
+        Input { series: self.all, notes }
     }
 }
 
-fn utf8(bytes: &[u8]) -> Result<&str, String> {
-    str::from_utf8(bytes).map_err(|_| "expected UTF-8 text".into())
+/// The time with its form and the value of a line, or what was expected.
+fn reading(fields: &[Cow<str>], columns: &Columns) -> Result<(i64, Form, f64), String> {
+    let [time, value] = [columns.time, columns.value].map(|place| fields[place].trim_ascii());
+    let found = |text: &str| format!("found \"{}\"", excerpt(text));
+    let (millis, form) =
+        time::parse(time).map_err(|expected| format!("{expected}, {}", found(time)))?;
+    let number =
+        value.parse().map_err(|_| format!("expected a number as value, {}", found(value)))?;
+    Ok((millis, form, number))
 }
 
 #[cfg(test)]
@@ -165,58 +248,81 @@ mod tests {
         }
     }
 
+    const NAMES: [&str; 15] = [
+        "a",
+        "a",
+        "a",
+        "b",
+        " a ",
+        "a ",
+        "\"a\"",
+        "\"a \"",
+        "\"a\r\"",
+        "a\r",
+        "\"\"\"a\"",
+        "\"a",
+        "#a",
+        "#a",
+        "\"#a\"",
+    ];
+    const TIMES: [&str; 12] = [
+        "5",
+        "60000",
+        "60001",
+        "-5",
+        "+7",
+        " 8",
+        "\"9\"",
+        "2026-01-01",
+        "2026-01-01T00:00:00Z",
+        "99999999999999999999",
+        "000000000000000000001",
+        "",
+    ];
+    const VALUES: [&str; 12] =
+        ["1", "20.5", "-0", "0.1", ".5", "5.", "1e5", "NaN", "\"3\"", "4 ", "-", "1,1"];
+    const ENDS: [&str; 8] = ["\n", "\n", "\n", "\r\n", " \n", "\n\n", "\n#\n", "\r\r\n"];
+
+    /// One of the texts, one time in so many any of them, else one of the first two.
+    fn pick(seed: &mut u64, texts: &[&str], usual: u64) -> String {
+        *seed = seed.wrapping_mul(6_364_136_223_846_793_005).wrapping_add(1);
+        let random = *seed >> 33;
+        let count = if random.is_multiple_of(usual) { texts.len() } else { 2 };
+        texts[random as usize / 64 % count].to_string()
+    }
+
+    /// Some lines, most of them plain.
+    fn text(seed: &mut u64) -> String {
+        let named = pick(seed, &["", "named"], 1) == "named";
+        let mut text = match named {
+            true => pick(seed, &["name,time,value\n", "", "value,time,name\n"], 2),
+            false => pick(seed, &["time,value\n", "", "time,avg\n"], 2),
+        };
+        let turned = text.starts_with("value");
+        for _ in 0..4 {
+            let (name, time) = (pick(seed, &NAMES, 3), pick(seed, &TIMES, 4));
+            let (value, end) = (pick(seed, &VALUES, 4), pick(seed, &ENDS, 3));
+            text += &match (named, turned) {
+                (true, true) => format!("{value},{time},{name}{end}"),
+                (true, false) => format!("{name},{time},{value}{end}"),
+                (false, _) => format!("{time},{value}{end}"),
+            };
+        }
+        text
+    }
+
     /// What is read as a plain line is what the full reader makes of it.
     #[test]
     fn plain_lines_are_read_as_all_others() {
-        const NAMES: [&str; 10] =
-            ["a", "a", "a", "b", " a ", "\"a\"", "\"\"\"a\"", "\"a", "#a", "\"#a\""];
-        const TIMES: [&str; 12] = [
-            "5",
-            "60000",
-            "60001",
-            "-5",
-            "+7",
-            " 8",
-            "\"9\"",
-            "2026-01-01",
-            "2026-01-01T00:00:00Z",
-            "99999999999999999999",
-            "000000000000000000001",
-            "",
-        ];
-        const VALUES: [&str; 12] =
-            ["1", "20.5", "-0", "0.1", ".5", "5.", "1e5", "NaN", "\"3\"", "4 ", "-", "1,1"];
-        const ENDS: [&str; 8] = ["\n", "\n", "\n", "\r\n", " \n", "\n\n", "\n#\n", "\r\r\n"];
-        let mut seed: u64 = 1;
-        let mut pick = |texts: &[&str], usual: u64| {
-            seed = seed.wrapping_mul(6_364_136_223_846_793_005).wrapping_add(1);
-            let random = (seed >> 33) as usize;
-            // One time in so many any of the texts, else one of the first two.
-            texts[random / 64 % if random as u64 % usual == 0 { texts.len() } else { 2 }]
-                .to_string()
-        };
-        let mut plain = 0;
+        let (mut seed, mut accepted) = (1, 0);
+        let (chosen, progress) = (Chosen::default(), Progress::default());
         for _ in 0..30_000 {
-            let named = pick(&["", "named"], 1) == "named";
-            let mut text = match named {
-                true => pick(&["name,time,value\n", "", "value,time,name\n"], 2),
-                false => pick(&["time,value\n", ""], 2),
-            };
-            let turned = text.starts_with("value");
-            for _ in 0..4 {
-                let (name, time) = (pick(&NAMES, 3), pick(&TIMES, 4));
-                let (value, end) = (pick(&VALUES, 4), pick(&ENDS, 3));
-                text += &match (named, turned) {
-                    (true, true) => format!("{value},{time},{name}{end}"),
-                    (true, false) => format!("{name},{time},{value}{end}"),
-                    (false, _) => format!("{time},{value}{end}"),
-                };
-            }
-            let all = csv("text", text.as_bytes(), &Progress::default());
-            let full = csv("text", Bytes(text.as_bytes()), &Progress::default());
+            let text = text(&mut seed);
+            let all = csv("text", text.as_bytes(), &chosen, &progress);
+            let full = csv("text", Bytes(text.as_bytes()), &chosen, &progress);
             assert_eq!(format!("{all:?}"), format!("{full:?}"), "{text}");
-            plain += usize::from(all.is_ok());
+            accepted += usize::from(all.is_ok());
         }
-        assert!(plain > 3_000, "{plain}");
+        assert!(accepted > 3_000, "{accepted}");
     }
 }

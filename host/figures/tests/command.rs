@@ -2,13 +2,14 @@
 
 mod common;
 
-use common::{Folder, data, figures, figures_in};
+use common::{Folder, SECONDS, data, figures, figures_in};
 
-/// Accepted without a word on standard error.
+/// Accepted without a word on standard error, but for the times.
 #[track_caller]
 fn output(arguments: &str, input: &str) -> String {
     let outcome = figures(arguments, input.as_bytes());
-    assert_eq!((outcome.status, outcome.errors.as_str()), (0, ""));
+    assert_eq!(outcome.status, 0);
+    assert!(["", SECONDS].contains(&outcome.errors.as_str()), "{}", outcome.errors);
     outcome.output
 }
 
@@ -27,7 +28,7 @@ fn the_layouts_of_readings() {
 #[test]
 fn several_series() {
     let names = "\"b,1\",0,1\na,0,5\n\"b,1\",60000,2\na,60000,7\n";
-    let text = output("--rollup max --step 1m -", names);
+    let text = figures("--rollup max --step 1m -", names.as_bytes()).output;
     assert_eq!(text, "name,time,max\n\"b,1\",0,1\n\"b,1\",60000,2\na,0,5\na,60000,7\n");
 
     let folder = Folder::new("several");
@@ -91,7 +92,7 @@ fn two_jobs_fail_as_one() {
         .map(|jobs| figures(&format!("--rollup avg --step 1m --jobs {jobs} -"), bad.as_bytes()));
     assert_eq!(
         one.errors,
-        "figures: standard input:2: series s0: refusal 4 at reading 1: the time is not above the one before\n"
+        "figures: standard input:2: series s0: refusal 4 at reading 2: the time is not above the one before: -4 after 0\n"
     );
     assert_eq!(one, two);
 }
@@ -127,12 +128,7 @@ fn refusals_of_settings_name_the_file() {
     let errors = |line: &str| figures(line, input).errors;
     assert_eq!(
         errors("--rollup avg --step 0s -"),
-        "figures: standard input: refusal 6: the step lies outside 1 to 2^50 milliseconds\n"
-    );
-    assert_eq!(
-        errors("--rollup avg --step 1ms --max-points 5 -"),
-        "figures: standard input: refusal 10: the grid has more output times than the point limit \
-         allows\n"
+        "figures: standard input: refusal 6: the step lies outside 1 to 2^50 milliseconds: 0\n"
     );
     assert_eq!(
         errors("--rollup avg --step 1m missing.csv"),
@@ -145,9 +141,9 @@ fn a_table_is_aligned() {
     let input = "2026-01-01T00:00:00Z,1\n2026-01-01T00:01:00Z,12345.5\n";
     let text = output("--rollup max --step 1m --format text -", input);
     let table = "standard input: 2 readings, prepared by none, windows of 1m
-time                      max
-2026-01-01T00:00:00Z        1
-2026-01-01T00:01:00Z  12345.5
+time                      max  readings
+2026-01-01T00:00:00Z        1         1
+2026-01-01T00:01:00Z  12345.5         1
 
 ";
     assert_eq!(text, table);
@@ -192,9 +188,20 @@ fn the_demo_writes_tables_and_a_picture() {
     let stored = |name: &str| std::fs::read_to_string(root.join("docs").join(name)).unwrap();
     assert_eq!(format!("$ host/run demo\n{}", outcome.output), stored("demo.txt"));
     assert_eq!(folder.read("demo.svg"), stored("demo.svg"));
-    for line in outcome.output.lines().filter_map(|line| line.strip_prefix("figures ")) {
+    let lines = outcome.output.lines().filter_map(|line| line.strip_prefix("$ host/run "));
+    let lines: Vec<&str> = lines.collect();
+    assert_eq!(lines.len(), 3);
+    for line in lines {
         let table = figures_in(&root, line, b"");
         assert_eq!(table.status, 0);
         assert!(outcome.output.contains(&table.output), "{line}");
     }
+}
+
+/// The demo's picture, wherever it is made, is no change of the repository; that of docs/ is.
+#[test]
+fn git_does_not_see_the_demo_s_picture() {
+    let rules = std::fs::read_to_string(data().join("../.gitignore")).unwrap();
+    let rules: Vec<&str> = rules.lines().collect();
+    assert!(rules.contains(&"demo.svg") && rules.contains(&"!docs/demo.svg"), "{rules:?}");
 }

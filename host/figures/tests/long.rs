@@ -1,6 +1,7 @@
 //! Thirty years of a reading a minute: 15.8 million readings, read, settled, run and written
 //! within the memory that one series needs. With `--nocapture` it prints how long that took beside
-//! the core alone: `cargo test --offline --release --test long -- --ignored --nocapture`.
+//! the core alone, and what a second job gains where windows overlap:
+//! `cargo test --offline --release --test long -- --ignored --nocapture --test-threads=1`.
 
 mod common;
 
@@ -24,34 +25,60 @@ fn reading(place: i64) -> (i64, f64) {
     (788_918_400_000 + place * MINUTE, (place * 7919 % 100_003) as f64 / 64.0)
 }
 
+/// Writes so many readings to long.csv.
+fn write(folder: &common::Folder, readings: i64) {
+    let mut file = BufWriter::new(File::create(folder.path().join("long.csv")).unwrap());
+    for (time, value) in (0..readings).map(reading) {
+        writeln!(file, "{time},{value}").unwrap();
+    }
+    file.flush().unwrap();
+}
+
+/// The seconds and the sizes and times of a run that writes out.csv.
+fn run(folder: &common::Folder, options: &str) -> (f64, String) {
+    let line = format!(
+        "ulimit -v {MEMORY}; exec {} {options} --stats --output out.csv long.csv",
+        env!("CARGO_BIN_EXE_figures")
+    );
+    let begin = Instant::now();
+    let run = Command::new("sh").args(["-c", &line]).current_dir(folder.path()).output().unwrap();
+    let seconds = begin.elapsed().as_secs_f64();
+    let stats = String::from_utf8(run.stderr).unwrap();
+    assert!(run.status.success(), "{stats}");
+    (seconds, stats)
+}
+
 #[test]
 #[ignore = "takes some seconds and half a gigabyte of disk"]
 fn thirty_years() {
     let folder = common::Folder::new("long");
-    let mut file = BufWriter::new(File::create(folder.path().join("long.csv")).unwrap());
-    for (time, value) in (0..READINGS).map(reading) {
-        writeln!(file, "{time},{value}").unwrap();
-    }
-    file.flush().unwrap();
+    write(&folder, READINGS);
     for (name, step, figures) in [("1d", DAY, READINGS / 1440 + 2), ("1m", MINUTE, READINGS)] {
-        let line = format!(
-            "ulimit -v {MEMORY}; exec {} --rollup avg --step {name} --jobs 1 --stats \
-             --output out.csv long.csv",
-            env!("CARGO_BIN_EXE_figures")
-        );
-        let begin = Instant::now();
-        let run = Command::new("sh").args(["-c", &line]).current_dir(folder.path()).output();
-        let seconds = begin.elapsed().as_secs_f64();
-        let run = run.unwrap();
-        let stats = String::from_utf8(run.stderr).unwrap();
-        assert!(run.status.success(), "{stats}");
-        assert!(stats.starts_with(&format!("1 series, {READINGS} readings, ")), "{stats}");
-        let lines = folder.read("out.csv").lines().count() as i64;
-        assert!((lines - 1 - figures).abs() <= 1, "{lines}");
-        let rate = READINGS as f64 / seconds / 1e6;
-        println!("--step {name}: {seconds:.2} s, {rate:.1} million readings a second\n{stats}");
+        for jobs in [1, 2] {
+            let line = format!("--rollup avg --step {name} --jobs {jobs}");
+            let (seconds, stats) = run(&folder, &line);
+            assert!(stats.starts_with(&format!("1 series, {READINGS} readings, ")), "{stats}");
+            let lines = folder.read("out.csv").lines().count() as i64;
+            assert!((lines - 1 - figures).abs() <= 1, "{lines}");
+            let rate = READINGS as f64 / seconds / 1e6;
+            println!("{line}: {seconds:.2} s, {rate:.1} million readings a second\n{stats}");
+        }
         println!("harzoulin_run alone, in memory at hand: {:.3} s\n", core(step));
     }
+}
+
+#[test]
+#[ignore = "takes a minute"]
+fn medians_by_one_job_and_by_two() {
+    let folder = common::Folder::new("medians");
+    write(&folder, 2_000_000);
+    let [one, two] = [1, 2].map(|jobs| {
+        let options = format!("--rollup median --window 30d --step 1h --jobs {jobs}");
+        let (seconds, stats) = run(&folder, &options);
+        println!("medians of 30 days, --jobs {jobs}: {seconds:.2} s\n{stats}");
+        folder.read("out.csv")
+    });
+    assert!(one == two);
 }
 
 /// The best time of three that the core takes for the same figures, in seconds.

@@ -17,9 +17,9 @@ fn values() {
     refused("0,1\n60000,\n", "2: expected a number as value, found \"\"");
     refused("0,0x10\n", "1: expected a number as value, found \"0x10\"");
     refused("0,1 2\n", "1: expected a number as value, found \"1 2\"");
-    refused("0,NaN\n", "1: refusal 5 at reading 0: the value is NaN or infinite");
-    refused("0,1\n1,-inf\n", "2: refusal 5 at reading 1: the value is NaN or infinite");
-    refused("0,1\n1,1e999\n", "2: refusal 5 at reading 1: the value is NaN or infinite");
+    refused("0,NaN\n", "1: refusal 5 at reading 1: the value is NaN or infinite: NaN");
+    refused("0,1\n1,-inf\n", "2: refusal 5 at reading 2: the value is NaN or infinite: -inf");
+    refused("0,1\n1,1e999\n", "2: refusal 5 at reading 2: the value is NaN or infinite: inf");
 }
 
 #[test]
@@ -56,15 +56,12 @@ fn times() {
     );
     refused(
         "0,1\n1125899906842625,1\n",
-        "2: refusal 3 at reading 1: the time lies outside ±2^50 milliseconds",
+        "2: refusal 3 at reading 2: the time lies outside ±2^50 milliseconds: 1125899906842625",
     );
-    let order = "the time is not above the one before";
-    refused("time,value\n5,1\n5,1\n", &format!("3: refusal 4 at reading 1: {order}"));
-    refused("5,1\n\n# a comment\n4,1\n", &format!("4: refusal 4 at reading 1: {order}"));
-    refused(
-        "a,5,1\nb,1,1\nb,2,1\na,4,1\n",
-        &format!("4: series a: refusal 4 at reading 1: {order}"),
-    );
+    let order = "at reading 2: the time is not above the one before";
+    refused("time,value\n5,1\n5,1\n", &format!("3: refusal 4 {order}: 5 after 5"));
+    refused("5,1\n\n# a comment\n4,1\n", &format!("4: refusal 4 {order}: 4 after 5"));
+    refused("a,5,1\nb,1,1\nb,2,1\na,4,1\n", &format!("4: series a: refusal 4 {order}: 4 after 5"));
 }
 
 #[test]
@@ -86,14 +83,19 @@ fn fields() {
 #[test]
 fn headers() {
     let header = "expected a header with time and value, and perhaps name";
+    let choose = "choose columns by --time-column, --value-column or --name-column";
     refused("time,celsius\n", &format!("1: {header}"));
-    refused("time,value,unit\n", &format!("1: {header}"));
-    refused("time,value,name,unit\n", &format!("1: {header}"));
-    refused("time,time,value\n", &format!("1: {header}"));
+    refused("time,value,unit\n", &format!("1: {header}, found unit besides: {choose}"));
+    refused("time,value,readings\n", &format!("1: {header}, found readings besides: {choose}"));
+    refused("time,value,name,unit\n", &format!("1: {header}, found unit besides: {choose}"));
     refused(
-        "time,value\n0,1\ntime,value\n",
-        "3: expected a time: milliseconds, or as 2026-01-31T12:00:00Z, found \"time\"",
+        "time,Timestamp,value\n",
+        "1: expected one column of times, found time and Timestamp: choose one by --time-column",
     );
+    let again = "expected a reading, found a header";
+    refused("time,value\n0,1\ntime,value\n", &format!("3: {again}"));
+    refused("0,1\n\nTime,Value\n", &format!("3: {again}"));
+    refused("name,time,value\na,0,1\nname,time,avg\n", &format!("3: {again}"));
 }
 
 #[test]

@@ -22,7 +22,7 @@ fn messages() {
     refused("--rollup avg --stats=1 -", "--stats is no option");
     refused(
         "--rollup mean --step 1m -",
-        "--rollup: expected the name of a rollup, such as avg, found \"mean\"",
+        "--rollup: expected a rollup, perhaps avg, found \"mean\"",
     );
     refused(
         "--rollup quantile --step 1m -",
@@ -34,7 +34,7 @@ fn messages() {
     );
     refused(
         "--rollup avg --quantile 0.5 --step 1m -",
-        "expected one rollup, found avg and quantile",
+        "expected --rollup quantile(0.5) beside other rollups, found --quantile",
     );
     refused(
         "--rollup avg --step 5 -",
@@ -44,15 +44,83 @@ fn messages() {
         "--rollup avg --step 1m --start x -",
         "--start: expected a time: milliseconds, or as 2026-01-31T12:00:00Z, found \"x\"",
     );
-    refused("--rollup avg --step 1m --jobs 0 -", "--jobs: expected a whole number, found \"0\"");
+    refused(
+        "--rollup avg --step 1m --jobs 0 -",
+        "--jobs: expected a whole number from 1 on, found \"0\"",
+    );
     refused(
         "--rollup avg --step 1m --format xml -",
-        "--format: expected csv or text, found \"xml\"",
+        "--format: expected csv, text or json, found \"xml\"",
     );
-    refused("--rollup avg --step 1m --at 0 -", "--at belongs to figures explain");
+    refused("--rollup avg --step 1m --at 0 -", "--at means nothing without explain");
     refused("explain --rollup avg --step 1m -", "expected --at TIME for explain");
     refused("list --step 1m", "figures list takes no --step");
     refused("demo file.csv", "figures demo takes no file.csv");
+}
+
+/// What means nothing where it stands may have been meant otherwise.
+#[test]
+fn options_that_mean_nothing() {
+    let line = "--rollup avg --step 1m";
+    for option in ["--step 1m", "--pre none", "--stats --stats", "--output a --output b"] {
+        let name = option.split(' ').next().unwrap();
+        refused(&format!("{line} --pre none {option} -"), &format!("{name} is given twice"));
+    }
+    refused(&format!("{line} --rollup max --rollup avg -"), "--rollup avg is given twice");
+    refused(&format!("{line} --rollup avg_over_time -"), "--rollup avg is given twice");
+    refused(
+        "--quantile 0.5 --predict-linear 60 --step 1m -",
+        "expected one of --quantile and --predict-linear",
+    );
+    refused(
+        "--rollup holt_winters --holt-winters 0.5,0.1 --quantile 0.5 --step 1m -",
+        "expected one of --quantile and --holt-winters",
+    );
+    refused(
+        "--rollup quantile --rollup avg --quantile 0.5 --step 1m -",
+        "expected --rollup quantile(0.5) beside other rollups, found --quantile",
+    );
+    for (option, without) in
+        [("--unit m", "--plot"), ("--per-call 1", "--stats"), ("--default-rollup", "--lookback")]
+    {
+        let name = option.split(' ').next().unwrap();
+        refused(&format!("{line} {option} -"), &format!("{name} means nothing without {without}"));
+    }
+    for option in ["--adjust-window", "--default-rollup --lookback 1m"] {
+        let name = option.split(' ').next().unwrap();
+        refused(
+            &format!("{line} --window 1m {option} -"),
+            &format!("{name} means nothing with --window"),
+        );
+    }
+    for format in ["text", "json"] {
+        refused(
+            &format!("{line} --format {format} --readings -"),
+            &format!("--readings means nothing with --format {format}, which has them"),
+        );
+    }
+    refused(&format!("{line} --plot - -"), "--plot: expected a file, found \"-\"");
+    refused(
+        &format!("{line} --decimals 21 -"),
+        "--decimals: expected a whole number up to 20, found \"21\"",
+    );
+    for option in [
+        "--plot p.svg",
+        "--output o.csv",
+        "--format text",
+        "--decimals 2",
+        "--jobs 2",
+        "--stats",
+        "--readings",
+        "--min-readings 2",
+        "--unit m",
+        "--per-call 1",
+    ] {
+        let name = option.split(' ').next().unwrap();
+        let line = format!("explain {line} --at 0 {option} -");
+        refused(&line, &format!("figures explain takes no {name}"));
+    }
+    refused(&format!("explain {line} --rollup max --at 0 -"), "figures explain takes one rollup");
 }
 
 #[test]

@@ -97,7 +97,8 @@ impl Refusal {
         }
     }
 
-    fn sentence(self) -> &'static str {
+    /// What the row says.
+    pub fn sentence(self) -> &'static str {
         match self {
             Refusal::Lengths => "times and values differ in length",
             Refusal::Readings => "the series has over 16,777,216 readings",
@@ -106,7 +107,10 @@ impl Refusal {
             Refusal::Value(_) => "the value is NaN or infinite",
             Refusal::Step => "the step lies outside 1 to 2^50 milliseconds",
             Refusal::Span => "start or end lies outside ±2^50 milliseconds, or start is after end",
-            Refusal::Window => "the window or the reach lies outside its range",
+            Refusal::Window => {
+                "the window lies outside 0 to 2^50 milliseconds, or, in a settled run, it or the \
+                 reach outside 1 to 2^52"
+            }
             Refusal::Limits => {
                 "lookback delta, staleness interval or point limit lies outside 0 to 2^50, \
                  or the per-call number is over 65,535"

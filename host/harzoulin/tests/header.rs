@@ -1,6 +1,8 @@
 //! include/harzoulin.h says the numbers and the parameters that this library and the proved source
 //! go by.
 
+use std::collections::BTreeSet;
+
 use harzoulin::{ROLLUPS, Refusal, Step};
 
 const HEADER: &str = include_str!("../../../include/harzoulin.h");
@@ -65,8 +67,8 @@ fn refusals() {
     assert_eq!(constants[1..], refusals);
 }
 
-/// The functions of a text, each with its parameters as C declares them.
-fn functions(text: &str, begin: &str, end: &str, in_c: fn(&str) -> String) -> Vec<String> {
+/// The functions of a text by their names, each with its parameters as C declares them.
+fn functions(text: &str, begin: &str, end: &str, in_c: fn(&str) -> String) -> BTreeSet<String> {
     let declarations = text.split(begin).skip(1).map(|part| {
         let (name, rest) = part.split_once('(').unwrap();
         let (parameters, _) = rest.split_once(end).unwrap();

@@ -32,12 +32,15 @@ impl Axis {
         let ten = 10f64.powf(rough.log10().floor());
         let step = [1.0, 2.0, 5.0, 10.0].map(|n| n * ten).into_iter().find(|s| *s >= rough);
         let step = step.unwrap_or(10.0 * ten);
+        let largest = self.high.abs().max(self.low.abs());
         let digits = (-step.log10().floor()).max(0.0) as usize;
-        let large = self.high.abs().max(self.low.abs()) >= 1e7 || digits > 6;
+        let large = largest >= 1e7 || digits > 6;
+        let places = (largest.log10().floor() - step.log10().floor()).max(0.0) as usize;
         let first = (self.low / step).ceil() as i64;
         let marks = (first..=first + 10).map(|n| n as f64 * step).take_while(|n| *n <= self.high);
-        let text = |n: f64| match large && n != 0.0 {
-            true => format!("{n:e}"),
+        let text = |n: f64| match large {
+            true if n == 0.0 => "0".into(),
+            true => format!("{n:.places$e}"),
             false => format!("{n:.digits$}"),
         };
         marks.map(|n| (self.place(n), text(n))).collect()
@@ -56,9 +59,9 @@ const STEPS: [i64; 32] = {
     ]
 };
 
-/// Round times from one time to another, some eight, with their text.
-pub fn times(low: i64, high: i64) -> Vec<(i64, String)> {
-    let rough = (high - low) / 8;
+/// Round times from one time to another, about so many, with their text.
+pub fn times(low: i64, high: i64, count: i64) -> Vec<(i64, String)> {
+    let rough = (high - low) / count;
     match STEPS.into_iter().find(|step| *step >= rough) {
         Some(step) => {
             // Days are counted from a Monday, so that weeks begin on one.

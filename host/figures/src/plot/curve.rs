@@ -4,19 +4,12 @@ use std::fmt::Write;
 use std::ops::Range;
 
 use super::axis::Axis;
-use super::{LEFT, Picture, RIGHT};
+use super::part::{Part, RIGHT, shown};
 
 /// Up to so many readings or figures are drawn one by one.
 pub const SINGLE: usize = 400;
 
-impl Picture<'_> {
-    /// The readings that are shown.
-    pub fn shown(&self) -> Range<usize> {
-        let times = &self.answer.series.times;
-        let first = times.partition_point(|time| *time < self.low);
-        first..times.partition_point(|time| *time <= self.high)
-    }
-
+impl Part<'_> {
     /// Whether the next reading is missing for long: twice the reach.
     fn silent(&self, place: usize) -> bool {
         let times = &self.answer.series.times;
@@ -25,13 +18,13 @@ impl Picture<'_> {
 
     /// The place of a time, inside the frame.
     fn inside(&self, time: i64) -> f64 {
-        self.x.place(time as f64).clamp(LEFT, RIGHT)
+        self.x.place(time as f64).clamp(self.left, RIGHT)
     }
 
     /// Shades the gaps between readings, also with one that is not shown.
-    pub fn gaps(&mut self, panels: [(f64, f64); 2]) {
+    pub fn gaps(&mut self) {
         let times = &self.answer.series.times;
-        let shown = self.shown();
+        let (panels, shown) = (self.heights(), shown(times, self.low, self.high));
         for place in shown.start.saturating_sub(1)..shown.end.min(times.len().saturating_sub(1)) {
             let (from, to) = (self.inside(times[place]), self.inside(times[place + 1]));
             let width = ((to - from) * 10.0).round() / 10.0;
@@ -52,44 +45,66 @@ impl Picture<'_> {
     }
 
     /// A line through the readings, broken at gaps. Few readings have a dot each.
-    pub fn readings(&mut self, y: &Axis) {
-        let shown = self.shown();
+    pub fn readings(&mut self) {
         let (times, values) = (&self.answer.series.times, &self.answer.series.values);
+        let shown = shown(times, self.low, self.high);
         let time = |place: usize| times[place];
-        let path = self.path(y, shown.clone(), time, values, |place| self.silent(place));
+        let path =
+            self.path(&self.panels[0].y, shown.clone(), time, values, |place| self.silent(place));
         self.put(format_args!("<path class=\"line\" d=\"{path}\"/>"));
         let single = shown.len() <= SINGLE;
         for place in shown.filter(|_| single) {
-            let (x, y) = (self.x.place(times[place] as f64), y.place(values[place]));
+            let x = self.x.place(times[place] as f64);
+            let y = self.panels[0].y.place(values[place]);
             self.put(format_args!("<circle class=\"dot\" cx=\"{x}\" cy=\"{y}\" r=\"1.8\"/>"));
         }
     }
 
-    /// Each figure as a bar along its window, with a dot at its output time; many figures as a
-    /// line. Where there is no figure a tick stands at the bottom.
-    pub fn figures(&mut self, y: &Axis, bottom: f64) {
-        let answer = self.answer;
-        let (figures, window) = (&answer.figures, answer.settled.window);
-        let missing = |place: usize| !figures[place].is_finite();
-        let time = |place: usize| answer.time(place);
-        let ticks = (0..figures.len()).filter(|place| missing(*place));
-        let mut ticks: Vec<f64> = ticks.map(|place| self.inside(time(place)).round()).collect();
+    /// The figures, as [`single`](Part::single) ones if they are few, else as a line. Where there
+    /// is no figure a tick stands at the bottom.
+    pub fn figures(&mut self) {
+        let bottom = self.panels[1].bottom;
+        let missing = (0..self.figures.len()).filter(|place| !self.figures[*place].is_finite());
+        let ticks = missing.map(|place| self.inside(self.answer.time(place)).round());
+        let mut ticks: Vec<f64> = ticks.collect();
         ticks.dedup();
         let ticks: String = ticks.iter().map(|x| format!("M{x} {}v-6", bottom - 1.0)).collect();
         self.put(format_args!("<path class=\"none\" d=\"{ticks}\"/>"));
-        if figures.len() > SINGLE {
-            let breaks = |place| missing(place) || missing(place + 1);
-            let path = self.path(y, 0..figures.len(), time, figures, breaks);
-            return self.put(format_args!("<path class=\"figures\" d=\"{path}\"/>"));
+        for (thin, class) in [(false, ""), (true, " thin")] {
+            let figure = |place: usize| match self.is_thin(place) == thin {
+                true => self.figures[place],
+                false => f64::NAN,
+            };
+            let figures: Vec<f64> = (0..self.figures.len()).map(figure).collect();
+            if figures.len() > SINGLE {
+                self.line(&figures, class);
+            } else {
+                self.single(&figures, class);
+            }
         }
-        for place in (0..figures.len()).filter(|place| !missing(*place)) {
-            let (from, to) = (self.inside(time(place) - window), self.inside(time(place)));
-            let height = y.place(figures[place]);
-            self.put(format_args!("<path class=\"window\" d=\"M{from} {height}H{to}\"/>"));
+    }
+
+    /// Each figure as a bar along its window, with a dot at its output time.
+    fn single(&mut self, figures: &[f64], class: &str) {
+        let (answer, window) = (self.answer, self.answer.settled.window);
+        for place in (0..figures.len()).filter(|place| figures[*place].is_finite()) {
+            let time = answer.time(place);
+            let (from, to) = (self.inside(time - window), self.inside(time));
+            let height = self.panels[1].y.place(figures[place]);
+            self.put(format_args!("<path class=\"window{class}\" d=\"M{from} {height}H{to}\"/>"));
             self.put(format_args!(
-                "<circle class=\"figure\" cx=\"{to}\" cy=\"{height}\" r=\"2.6\"/>"
+                "<circle class=\"figure{class}\" cx=\"{to}\" cy=\"{height}\" r=\"2.6\"/>"
             ));
         }
+    }
+
+    /// The figures as a line that is broken where there is none.
+    fn line(&mut self, figures: &[f64], class: &str) {
+        let missing = |place: usize| !figures[place].is_finite();
+        let breaks = |place| missing(place) || missing(place + 1);
+        let time = |place| self.answer.time(place);
+        let path = self.path(&self.panels[1].y, 0..figures.len(), time, figures, breaks);
+        self.put(format_args!("<path class=\"figures{class}\" d=\"{path}\"/>"));
     }
 
     /// A line through numbers, broken after some; of those that share a column of the picture the
@@ -118,7 +133,7 @@ impl Picture<'_> {
                 letter = 'L';
             }
             column.clear();
-            if ends {
+            if ends && letter == 'L' {
                 // A stretch of one number is a dot: a line of no length with round ends.
                 path += "h0";
                 letter = 'M';

@@ -3,6 +3,7 @@
 use std::io::Write;
 use std::path::{Path, PathBuf};
 use std::process::{Command, Stdio};
+use std::sync::atomic::{AtomicUsize, Ordering::Relaxed};
 use std::{env, fs, process, thread};
 
 /// What the command left: its exit status, standard output and standard error.
@@ -12,6 +13,11 @@ pub struct Outcome {
     pub output: String,
     pub errors: String,
 }
+
+/// The warning that readings of the first days of 1970 get, on standard input.
+#[allow(dead_code)]
+pub const SECONDS: &str = "figures: standard input: all times lie in January 1970: are they seconds? \
+                           Times are milliseconds\n";
 
 /// Runs the command in a folder, with a text as standard input. Arguments are parted by spaces.
 pub fn figures_in(folder: &Path, arguments: &str, input: &[u8]) -> Outcome {
@@ -54,7 +60,9 @@ pub struct Folder(PathBuf);
 #[allow(dead_code)]
 impl Folder {
     pub fn new(name: &str) -> Folder {
-        let path = env::temp_dir().join(format!("figures-{name}-{}", process::id()));
+        static FOLDERS: AtomicUsize = AtomicUsize::new(0);
+        let (process, number) = (process::id(), FOLDERS.fetch_add(1, Relaxed));
+        let path = env::temp_dir().join(format!("figures-{name}-{process}-{number}"));
         fs::create_dir(&path).unwrap();
         Folder(path)
     }
