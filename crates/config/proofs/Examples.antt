@@ -3,7 +3,6 @@
 use mathlib.Core.Bool.{true}
 use mathlib.Core.List.{[], _∷_}
 use mathlib.Core.Path.{_≡_, refl}
-use Prim.Native.Nat.{_^_}
 use lib.IntN.{pos}
 use lib.Ieee.{add, sub, mul, round, lt, ofBits, ofInt, toUnsigned, toSigned, isNan}
 use Rattle.ieee.specs.Value.{floorOf}
@@ -14,7 +13,7 @@ use Rattle.series.specs.declared.refusal.Checked.the-variants.{Accepted, Refuse
 use Rattle.series.specs.declared.refusal.Refusal.the-variants.{OverPointLimit, WindowOutside}
 use Rattle.config.specs.Estimate.{distances, distancesFrom, estimateOf}
 use Rattle.config.specs.Reach.{reachOf, boundedReach, windowOf}
-use Rattle.config.specs.Rows.{outside, overPointLimit, row10, settledOutside, settledRow8}
+use Rattle.config.specs.Rows.{outside, overPointLimit, row10, settledLimit, settledOutside, settledRow8}
 
 -- rounded as floats are: 7, not 8
 pub eight-times : estimateOf (pos 0 ∷ pos 5 ∷ pos 10 ∷ pos 15 ∷ pos 20 ∷ pos 30 ∷ pos 40 ∷ pos 50 ∷ []) ≡ 7
@@ -53,7 +52,7 @@ unfolding overPointLimit
 limit-of-4 = refl
 
 -- settled: window 2^52 passes, 0 is refused
-pub longest-window : settledRow8 (pos (2 ^ 52)) (pos 1) ≡ Accepted
+pub longest-window : settledRow8 (pos settledLimit) (pos 1) ≡ Accepted
 unfolding outside settledOutside
 longest-window = refl
 

@@ -2,6 +2,7 @@
 
 use series::Checked;
 use series::Refusal;
+use times::TIME_LIMIT;
 ghost use mathlib.Core.Path.{_≡_};
 ghost use Rattle.times.specs.Grid.{Spans};
 ghost use Rattle.config.specs.Rows.{outside, spanOutside, settingOutside, overPointLimit, row11, spanChecked, rangesChecked, settingsChecked, settledOutside, settledSettings};
@@ -30,8 +31,6 @@ pub struct SettledConfig {
     pub samples_scanned_per_call: u64,
 }
 
-const LIMIT: i64 = 0x4_0000_0000_0000;
-
 const SETTLED_LIMIT: i64 = 0x10_0000_0000_0000;
 
 const MAX_POINTS: u64 = 16_777_216;
@@ -52,10 +51,10 @@ fn is_outside(lo: i64, hi: i64, x: i64) -> bool
 fn is_span_outside(start: i64, end: i64) -> bool
     ensures { λ r. ⌜ r ≡ spanOutside start end ⌝ }
 {
-    if is_outside(-LIMIT, LIMIT, start) {
+    if is_outside(-TIME_LIMIT, TIME_LIMIT, start) {
         return true;
     }
-    if is_outside(-LIMIT, LIMIT, end) {
+    if is_outside(-TIME_LIMIT, TIME_LIMIT, end) {
         return true;
     }
     end < start
@@ -70,13 +69,13 @@ fn is_setting_outside(
 ) -> bool
     ensures { λ r. ⌜ r ≡ settingOutside «lookback_delta» «min_staleness_interval» «max_points» «per_call» ⌝ }
 {
-    if is_outside(0, LIMIT, lookback_delta) {
+    if is_outside(0, TIME_LIMIT, lookback_delta) {
         return true;
     }
-    if is_outside(0, LIMIT, min_staleness_interval) {
+    if is_outside(0, TIME_LIMIT, min_staleness_interval) {
         return true;
     }
-    if is_outside(0, LIMIT, max_points) {
+    if is_outside(0, TIME_LIMIT, max_points) {
         return true;
     }
     MAX_PER_CALL < per_call
@@ -97,7 +96,7 @@ fn is_over_point_limit(start: i64, end: i64, step: i64, max_points: i64) -> bool
 fn check_span(start: i64, end: i64, step: i64) -> Checked
     ensures { λ r. ⌜ r ≡ spanChecked start end step ⌝ }
 {
-    if is_outside(1, LIMIT, step) {
+    if is_outside(1, TIME_LIMIT, step) {
         return Checked::Refused(Refusal::StepOutside);
     }
     if is_span_outside(start, end) {
@@ -114,7 +113,7 @@ fn check_ranges(rc: RollupConfig) -> Checked
     if let Checked::Refused(r) = span {
         return Checked::Refused(r);
     }
-    if is_outside(0, LIMIT, rc.window) {
+    if is_outside(0, TIME_LIMIT, rc.window) {
         return Checked::Refused(Refusal::WindowOutside);
     }
     if is_setting_outside(

@@ -9,7 +9,8 @@ use series::Checked;
 use vectors::STEP;
 use window::types::RollupFuncArg;
 ghost use mathlib.Core.Path.{_≡_};
-ghost use Prim.Native.Nat.{_^_, _≤_, _<_};
+ghost use Prim.Native.Nat.{_≤_, _<_};
+ghost use Rattle.window.specs.Types.{recordLimit};
 ghost use lib.Dec.{leb};
 ghost use lib.IntN.{natAbs};
 ghost use lib.ListN.{length};
@@ -23,7 +24,7 @@ const RANGE: i64 = 0x40_0000_0000_0000;
 
 // Whether a time of the record is one that a rollup may be handed.
 fn in_range(t: i64) -> bool
-    ensures { λ r. ⌜ r ≡ leb (natAbs t) (2 ^ 54) ⌝ }
+    ensures { λ r. ⌜ r ≡ leb (natAbs t) recordLimit ⌝ }
 {
     if -RANGE <= t {
         return t <= RANGE;

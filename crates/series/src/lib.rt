@@ -1,16 +1,16 @@
 // A series of readings: where it is refused, and the steps that prepare its values.
 
+mod checks;
 mod choice;
 mod refusal;
-mod rows;
 mod steps;
 
+pub use checks::check_series;
+pub use checks::check_times;
 pub use choice::Step;
 pub use choice::step_of;
 pub use refusal::Checked;
 pub use refusal::Refusal;
-pub use rows::check_series;
-pub use rows::check_times;
 pub use steps::PreFunction;
 ghost use mathlib.Core.Path.{_≡_};
 ghost use lib.ListN.{length};

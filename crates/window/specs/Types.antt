@@ -6,9 +6,12 @@ use lib.ListN.{getD}
 use lib.IntN.{ℤ, pos, natAbs}
 use Rattle.window.specs.declared.types.RollupFuncArg.{RollupFuncArg}
 
--- within ±2^54: with times within ±2^50 and a window and a reach of at most 2^52, so is each time of a record
+-- how far from 0 a time of a record may lie: with times within ±2^50 and a window and a reach of at most 2^52, none lies further
+abbrev pub recordLimit : ℕ
+recordLimit = 2 ^ 54
+
 abbrev pub InRange : ℤ → Type 0
-InRange t = natAbs t ≤ 2 ^ 54
+InRange t = natAbs t ≤ recordLimit
 
 -- every time of a window is in range
 abbrev pub AllInRange : List ℤ → Type 0

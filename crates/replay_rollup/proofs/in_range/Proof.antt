@@ -1,6 +1,7 @@
 -- `replay_rollup::in_range` meets its contract. Its two tests together are one of the magnitude.
 -- Assumes nothing.
-use Prim.Native.Nat.{_-_, _^_}
+use Prim.Native.Nat.{_-_}
+use Rattle.window.specs.Types.{recordLimit}
 use mathlib.Core.Path.{_≡_, sym, ap, _∙_}
 use mathlib.Core.Bool.{Bool, _&&_}
 use borrow.Author.Needs.{needs}
@@ -12,8 +13,8 @@ use Rattle.times.proofs.Milli.{within-test}
 use Rattle.replay_rollup.proofs.in_range.Statement.{statement}
 use Rattle.replay_rollup.proofs.in_range.Tie as tie
 
-tested : (t : ℤ) (b : Bool) → leZ (negsuc 18014398509481983) t ≡ b → (b && leZ t (pos 18014398509481984)) ≡ leb (natAbs t) (2 ^ 54)
-tested t b e = sym (within-test (2 ^ 54) t ∙ ap (λ x. x && leZ t (pos (2 ^ 54))) e)
+tested : (t : ℤ) (b : Bool) → leZ (negsuc 18014398509481983) t ≡ b → (b && leZ t (pos 18014398509481984)) ≡ leb (natAbs t) recordLimit
+tested t b e = sym (within-test recordLimit t ∙ ap (λ x. x && leZ t (pos recordLimit)) e)
 
 sub-if1 : tie.Need-sub-if1
 sub-if1 c = search needs

@@ -1,6 +1,5 @@
 -- `replay_rollup::same` is safe: accepted times lie in ±2^50, and the record's were tested, so all are in range.
 -- Assumes nothing.
-use Prim.Native.Nat.{_^_}
 use mathlib.Core.Path.{_≡_, sym, ap, _∙_}
 use mathlib.Core.Bool.{Bool, true, false, not, false≢true}
 use mathlib.Core.List.{List}
@@ -13,7 +12,7 @@ use lib.ListN.{length, List·getD-eq-default}
 use mir.Syntax.{w64}
 use mir.Val.{SFits, ofZ, toZ}
 use mir.Facts.{toZ-ofZ}
-use Rattle.window.specs.Types.{AllInRange, InRange}
+use Rattle.window.specs.Types.{AllInRange, InRange, recordLimit}
 use Rattle.series.specs.Rows.{timesChecked}
 use Rattle.series.specs.declared.refusal.Checked.the-variants.{Accepted}
 use Rattle.series.proofs.Accepted.{accepted-times}
@@ -29,8 +28,8 @@ all-in ts e i =
     (λ h. rw (List·getD-eq-default ts (pos 0) (ltb-false i (length ts) h)) (omega arith))
 
 -- what was tested is the time as it is read back from its bits
-passed : {r : Bool} (t : ℤ) → SFits w64 t → r ≡ leb (natAbs (toZ w64 (ofZ w64 t))) (2 ^ 54) → not r ≡ false → InRange t
-passed {r = true} t f e h = leb-true _ _ (ap (λ x. leb (natAbs x) (2 ^ 54)) (sym (toZ-ofZ f)) ∙ sym e)
+passed : {r : Bool} (t : ℤ) → SFits w64 t → r ≡ leb (natAbs (toZ w64 (ofZ w64 t))) recordLimit → not r ≡ false → InRange t
+passed {r = true} t f e h = leb-true _ _ (ap (λ x. leb (natAbs x) recordLimit) (sym (toZ-ofZ f)) ∙ sym e)
 passed {r = false} t f e h = absurd (false≢true (sym h))
 
 answers-requires : tie.Need-answers-requires

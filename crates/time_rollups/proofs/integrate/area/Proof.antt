@@ -2,7 +2,8 @@
 -- Assumes nothing.
 use borrow.Author.Needs.{needs}
 use native.Mathlib.Omega.{arith}
-use Prim.Native.Nat.{_-_, _≤_, _^_}
+use Prim.Native.Nat.{_-_, _≤_}
+use Rattle.window.specs.Types.{recordLimit}
 use lib.ListN.{length}
 use lib.IntN.{natAbs}
 use mir.Syntax.{w64}
@@ -30,13 +31,13 @@ loop-holds c = (start, rw (toZ-ofZ (c .before .fits .t)) (c .before .pre .0))
 
 seconds-between-requires : tie.Need-seconds-between-requires Inv-loop μ-loop
 seconds-between-requires c κs =
-    let h : natAbs (c .time-at .result) ≤ 2 ^ 54 = rw (c .time-at .ensures) (c .before .before .before .before .pre .1 .0 (c .before .before .loop .i)) in
+    let h : natAbs (c .time-at .result) ≤ recordLimit = rw (c .time-at .ensures) (c .before .before .before .before .pre .1 .0 (c .before .before .loop .i)) in
     rw (read-back (c .time-at .result) (c .time-at .ok)) (omega (arith, h, c .before .before .loop .inv .1))
 
 loop-again : tie.Need-loop-again Inv-loop μ-loop
 unfolding areaAt
 loop-again c =
-    let h : natAbs (c .before .before .time-at .result) ≤ 2 ^ 54 = rw (c .before .before .time-at .ensures) (c .before .before .before .before .before .before .pre .1 .0 (c .before .before .before .before .loop .i)) in
+    let h : natAbs (c .before .before .time-at .result) ≤ recordLimit = rw (c .before .before .time-at .ensures) (c .before .before .before .before .before .before .pre .1 .0 (c .before .before .before .before .loop .i)) in
     let back = read-back (c .before .before .time-at .result) (c .before .before .time-at .ok) in
     (turn (c .before .before .before .before .loop .inv .0) (reading _ _ _ (c .before .before .before .before .before .before .pre .1 .1 .1) (c .before .before .before .loop-test .taken)) (cc back), rw back (omega (arith, h)))
 
