@@ -435,13 +435,20 @@ pub fn rollup_changes_prometheus(rfa: RollupFuncArg, values: &[u64]) -> f64
 pub fn rollup_changes(rfa: RollupFuncArg, values: &[u64]) -> f64
     ensures { λ r. ⌜ r ≡ changesOf (rfa .«prev_value») (floats (now (values .entry))) ⌝ }
 {
-    if ieee::is_nan(rfa.prev_value) {
+    let alone = ieee::is_nan(rfa.prev_value);
+    if alone {
         if values.len() == 0 {
             return nan();
         }
-        return ieee::of_count(count_changes(first(values), rest(values)) + 1);
     }
-    ieee::of_count(count_changes(rfa.prev_value, values))
+    let n = count_changes(
+        seed(rfa.prev_value, values),
+        after_seed(rfa.prev_value, values),
+    );
+    if alone {
+        return ieee::of_count(n + 1);
+    }
+    ieee::of_count(n)
 }
 
 // How many steps go the given way, those below the tolerance left out.
@@ -556,14 +563,14 @@ pub fn rollup_descent_over_time(rfa: RollupFuncArg, values: &[u64]) -> f64
     slide_from_predecessor(true, rfa, values)
 }
 
-// d in units of the deviation, 0.0 where d is.
-fn zscore_of(d: f64, deviation: f64) -> f64
-    ensures { λ r. ⌜ r ≡ zscoreFrom d deviation ⌝ }
+// d in units of the values' deviation, 0.0 where d is.
+fn zscore_of(d: f64, values: &[u64]) -> f64
+    ensures { λ r. ⌜ r ≡ zscoreFrom d (stddevOf (floats (now (values .entry)))) ⌝ }
 {
     if d == 0.0 {
         return 0.0;
     }
-    d / deviation
+    d / math::deviation::stddev(values)
 }
 
 // How far the last value lies from the average, in standard deviations.
@@ -582,10 +589,7 @@ pub fn rollup_zscore_over_time(rfa: RollupFuncArg, values: &[u64], timestamps: &
     if lag > scrape_interval {
         return nan();
     }
-    zscore_of(
-        last(values) - rollup_avg(rfa, values),
-        rollup_stddev(rfa, values),
-    )
+    zscore_of(last(values) - rollup_avg(rfa, values), values)
 }
 
 // The first value.
