@@ -86,13 +86,20 @@ pub fn rollup_changes_prometheus(rfa: RollupFuncArg, values: &[u64]) -> f64
 pub fn rollup_changes(rfa: RollupFuncArg, values: &[u64]) -> f64
     ensures { λ r. ⌜ r ≡ changesOf (rfa .«prev_value») (floats (now (values .entry))) ⌝ }
 {
-    if ieee::is_nan(rfa.prev_value) {
+    let alone = ieee::is_nan(rfa.prev_value);
+    if alone {
         if values.len() == 0 {
             return nan();
         }
-        return ieee::of_count(count_changes(first(values), rest(values)) + 1);
     }
-    ieee::of_count(count_changes(rfa.prev_value, values))
+    let n = count_changes(
+        seed(rfa.prev_value, values),
+        after_seed(rfa.prev_value, values),
+    );
+    if alone {
+        return ieee::of_count(n + 1);
+    }
+    ieee::of_count(n)
 }
 
 // How many steps go the given way, those below the tolerance left out.

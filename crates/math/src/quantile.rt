@@ -20,9 +20,9 @@ pub fn keep(values: &[u64], work: &mut [f64]) -> usize
     let mut n = 0;
     let mut i = 0;
     while i < values.len() {
-        let v = ieee::value_of(values[i]);
-        if !ieee::is_nan(v) {
-            work[n] = v;
+        let b = values[i];
+        if !ieee::is_nan_pattern(b) {
+            work[n] = ieee::number_of(b);
             n += 1;
         }
         i += 1;
@@ -39,9 +39,9 @@ fn keep_deviations(values: &[u64], middle: f64, work: &mut [f64]) -> usize
     let mut n = 0;
     let mut i = 0;
     while i < values.len() {
-        let v = ieee::abs(ieee::value_of(values[i]) - middle);
-        if !ieee::is_nan(v) {
-            work[n] = v;
+        let d = ieee::value_of(values[i]) - middle;
+        if !ieee::is_nan(d) {
+            work[n] = ieee::magnitude(d);
             n += 1;
         }
         i += 1;

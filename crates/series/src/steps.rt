@@ -2,10 +2,14 @@
 
 ghost use mathlib.Core.Path.{_≡_};
 ghost use Rattle.series.specs.Patterns.{floats, patterns};
-ghost use lib.ListN.{length};
+ghost use mathlib.Core.Bool.{true};
+ghost use Prim.Native.Nat.{_<_};
+ghost use lib.Ieee.{binary64, ofBits};
+ghost use lib.Ieee.Scale.{finite};
+ghost use lib.ListN.{length, getD};
 ghost use Rattle.times.specs.Milli.{timeLimit, Within};
 ghost use Rattle.times.specs.Leading.{leading};
-ghost use Rattle.series.specs.Rows.{inside};
+ghost use Rattle.series.specs.Rows.{inside, finiteBits};
 ghost use Rattle.series.specs.Steps.{counterAfter, grown, lifted, resets, deltas, sloped, derivs, wholeSeconds, intervals};
 
 // What is done to a series' values before they are rolled up.
@@ -28,6 +32,14 @@ pub struct Slope {
     pub deriv: f64,
     pub value: f64,
     pub ts: i64,
+}
+
+// A value of an accepted series, which is no NaN.
+fn read(values: &[u64], i: usize) -> f64
+    requires { ⌜ (leading finiteBits (now values) ≡ length (now values)) × (i < length (now values)) ⌝ }
+    ensures { λ r. ⌜ (r ≡ ofBits binary64 (getD (now (values .entry)) i 0)) × (finite r ≡ true) ⌝ }
+{
+    ieee::number_of(values[i])
 }
 
 // The correction c once the raw value v is read, where p is the output before.
@@ -67,7 +79,7 @@ impl Counter {
 
 // Each value with the counter's resets added back.
 pub fn remove_counter_resets(values: &[u64], prepared: &mut [u64])
-    requires { ⌜ length (now prepared) ≡ length (now values) ⌝ }
+    requires { ⌜ (length (now prepared) ≡ length (now values)) × (leading finiteBits (now values) ≡ length (now values)) ⌝ }
     ensures { λ _. ⌜ now (prepared .exit) ≡ patterns (resets (floats (now (values .entry)))) ⌝ }
 {
     // Nothing lies below -infinity, so the first value is no reset.
@@ -77,7 +89,7 @@ pub fn remove_counter_resets(values: &[u64], prepared: &mut [u64])
     };
     let mut i = 0;
     while i < values.len() {
-        counter = counter.next(ieee::value_of(values[i]));
+        counter = counter.next(read(values, i));
         prepared[i] = ieee::bits_of(counter.output);
         i += 1;
     }
@@ -85,23 +97,23 @@ pub fn remove_counter_resets(values: &[u64], prepared: &mut [u64])
 
 // Each value's step to the next; the last step twice.
 pub fn delta_values(values: &[u64], prepared: &mut [u64])
-    requires { ⌜ length (now prepared) ≡ length (now values) ⌝ }
+    requires { ⌜ (length (now prepared) ≡ length (now values)) × (leading finiteBits (now values) ≡ length (now values)) ⌝ }
     ensures { λ _. ⌜ now (prepared .exit) ≡ patterns (deltas (floats (now (values .entry)))) ⌝ }
 {
     if values.len() == 0 {
         return;
     }
     let mut prev_delta = 0.0;
-    let mut prev_value = ieee::value_of(values[0]);
+    let mut prev_value = read(values, 0);
     let mut j = 0;
     while j + 1 < values.len() {
-        let v = ieee::value_of(values[j + 1]);
+        let v = read(values, j + 1);
         prev_delta = v - prev_value;
-        prepared[j] = ieee::bits_of(prev_delta);
+        prepared[j] = ieee::number_bits(prev_delta);
         prev_value = v;
         j += 1;
     }
-    prepared[j] = ieee::bits_of(prev_delta);
+    prepared[j] = ieee::number_bits(prev_delta);
 }
 
 impl Slope {
@@ -124,7 +136,7 @@ impl Slope {
 
 // Each value's slope to the next, per second; the last slope twice.
 pub fn deriv_values(values: &[u64], timestamps: &[i64], prepared: &mut [u64])
-    requires { ⌜ (length (now timestamps) ≡ length (now values)) × (length (now prepared) ≡ length (now values)) × (leading inside (now timestamps) ≡ length (now timestamps)) ⌝ }
+    requires { ⌜ (length (now timestamps) ≡ length (now values)) × (length (now prepared) ≡ length (now values)) × (leading inside (now timestamps) ≡ length (now timestamps)) × (leading finiteBits (now values) ≡ length (now values)) ⌝ }
     ensures { λ _. ⌜ now (prepared .exit) ≡ patterns (derivs (now (timestamps .entry)) (floats (now (values .entry)))) ⌝ }
 {
     if values.len() == 0 {
@@ -132,12 +144,12 @@ pub fn deriv_values(values: &[u64], timestamps: &[i64], prepared: &mut [u64])
     }
     let mut slope = Slope {
         deriv: 0.0,
-        value: ieee::value_of(values[0]),
+        value: read(values, 0),
         ts: timestamps[0],
     };
     let mut j = 0;
     while j + 1 < values.len() {
-        slope = slope.next(ieee::value_of(values[j + 1]), timestamps[j + 1]);
+        slope = slope.next(read(values, j + 1), timestamps[j + 1]);
         prepared[j] = ieee::bits_of(slope.deriv);
         j += 1;
     }

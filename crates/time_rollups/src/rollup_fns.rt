@@ -2,7 +2,6 @@
 
 use math::regression::Line;
 use value_rollups::rollup_fns::rollup_avg;
-use value_rollups::rollup_fns::rollup_stddev;
 use window::types::RollupFuncArg;
 use window::types::first;
 use window::types::first_time;
@@ -17,6 +16,7 @@ ghost use mathlib.Core.Path.{_≡_};
 ghost use Prim.Native.Nat.{_-_, _≤_};
 ghost use lib.ListN.{length};
 ghost use lib.Ieee.{ne};
+ghost use Rattle.math.specs.Deviation.{stddevOf};
 ghost use Rattle.window.specs.Types.{Ranged};
 ghost use Rattle.window.specs.Window.{floats, upToLast};
 ghost use Rattle.time_rollups.specs.RollupFns.{atLeast, changedUpTo, extremeTime, lagOf, lifetimeOf, predictFrom, predictLinearOf, scrapeIntervalOf, tfirstOf, tlastChangeOf, tlastOf, tmaxOf, tminOf, zscoreFrom, zscoreOverTimeOf};
@@ -172,14 +172,14 @@ pub fn rollup_lag(rfa: RollupFuncArg, timestamps: &[i64]) -> f64
     seconds_between(last_time(timestamps), rfa.curr_timestamp)
 }
 
-// d in units of the deviation, 0.0 where d is.
-fn zscore_of(d: f64, deviation: f64) -> f64
-    ensures { λ r. ⌜ r ≡ zscoreFrom d deviation ⌝ }
+// d in units of the values' deviation, 0.0 where d is.
+fn zscore_of(d: f64, values: &[u64]) -> f64
+    ensures { λ r. ⌜ r ≡ zscoreFrom d (stddevOf (floats (now (values .entry)))) ⌝ }
 {
     if d == 0.0 {
         return 0.0;
     }
-    d / deviation
+    d / math::deviation::stddev(values)
 }
 
 // How far the last value lies from the average, in standard deviations.
@@ -198,10 +198,7 @@ pub fn rollup_zscore_over_time(rfa: RollupFuncArg, values: &[u64], timestamps: &
     if lag > scrape_interval {
         return nan();
     }
-    zscore_of(
-        last(values) - rollup_avg(rfa, values),
-        rollup_stddev(rfa, values),
-    )
+    zscore_of(last(values) - rollup_avg(rfa, values), values)
 }
 
 // The value of the regression's line some seconds after the output time.

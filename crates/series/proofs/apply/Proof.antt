@@ -8,11 +8,17 @@ use Rattle.series.proofs.Patterns.{patterns-floats}
 use Rattle.series.proofs.apply.Statement.{statement}
 use Rattle.series.proofs.apply.Tie as tie
 
+remove-counter-resets-requires : tie.Need-remove-counter-resets-requires
+remove-counter-resets-requires c κs = let start = c .before .before .before .before .before in (start .pre .1, accepted-series _ _ (start .pre .0) .all-finite)
+
+delta-values-requires : tie.Need-delta-values-requires
+delta-values-requires c κs = let start = c .before .before .before .before .before in (start .pre .1, accepted-series _ _ (start .pre .0) .all-finite)
+
 deriv-values-requires : tie.Need-deriv-values-requires
 deriv-values-requires c κs =
     let start = c .before .before .before .before .before in
     let series = accepted-series _ _ (start .pre .0) in
-    (series .same-length, start .pre .1, series .times .all-inside)
+    (series .same-length, start .pre .1, series .times .all-inside, series .all-finite)
 
 calc-sample-intervals-pre-fn-requires : tie.Need-calc-sample-intervals-pre-fn-requires
 calc-sample-intervals-pre-fn-requires c κs =
@@ -46,4 +52,4 @@ returns-5 c = rw (c .before .before .before .before .enum-told5 .given .1) (c .b
 pub apply-spec : {M : Type 1} → statement M
 apply-spec =
     tie.close
-    (tie.spec (λ c. search needs) (λ c κs. search needs) (λ c. search needs) (λ c κs. search needs) (λ c. search needs) (λ c κs. search needs) (λ c. search needs) deriv-values-requires (λ c. search needs) calc-sample-intervals-pre-fn-requires (λ c. search needs) returns (λ c. search needs) returns-2 (λ c. search needs) returns-3 (λ c. search needs) returns-4 (λ c. search needs) returns-5)
+    (tie.spec (λ c. search needs) (λ c κs. search needs) (λ c. search needs) remove-counter-resets-requires (λ c. search needs) delta-values-requires (λ c. search needs) deriv-values-requires (λ c. search needs) calc-sample-intervals-pre-fn-requires (λ c. search needs) returns (λ c. search needs) returns-2 (λ c. search needs) returns-3 (λ c. search needs) returns-4 (λ c. search needs) returns-5)

@@ -1,12 +1,14 @@
 -- `math::quantile::keep_deviations` meets its contract, as `keep` does: at each turn the distances that are kept so far stand at the front.
 -- Assumes nothing.
-use mathlib.Core.Path.{refl}
+use mathlib.Core.Path.{_≡_, refl, sym, _∙_}
 use mathlib.Core.Logic.{⊎-elim}
 use Prim.Native.Nat.{_-_}
 use borrow.Author.Needs.{needs}
-use lib.ListN.{length}
-use lib.Ieee.{binary64, sub}
+use borrow.Author.Tests.{not-true}
+use lib.ListN.{length, getD}
+use lib.Ieee.{binary64, isNan, ofBits, sub}
 use Rattle.ieee.specs.Value.{absOf}
+use Rattle.ieee.proofs.Patterns.{abs-nan}
 use Rattle.math.specs.Quantile.{deviations}
 use Rattle.math.proofs.Filling.{Keeping, keeping-start, keeping-turn, keeping-end}
 use Rattle.math.proofs.quantile.keep_deviations.Statement.{statement}
@@ -21,16 +23,23 @@ abbrev μ-loop : tie.MeasureT-loop
 loop-holds : tie.Need-loop-holds Inv-loop μ-loop
 loop-holds c = let s = c .before .before in keeping-start (deviations (s .args .middle)) (s .args .values .now) (s .args .work .now) (s .pre)
 
+-- the distance is NaN where the difference is
+tested : (c : tie.After-is-nan Inv-loop μ-loop) → c .is-nan .result ≡ isNan (absOf (sub binary64 (ofBits binary64 (getD (c .before .before .before .before .before .before .before .args .values .now) (c .before .before .before .before .loop .i) 0)) (c .before .before .before .before .before .before .before .args .middle)))
+tested c = c .is-nan .ensures ∙ rw (c .before .value-of .ensures) (sym (abs-nan _))
+
 loop-again : tie.Need-loop-again Inv-loop μ-loop
 loop-again c =
-    let at = c .before .before .before .before .before .before in
+    let at = c .before .before .before .before .before in
     let s = at .before .before .before in
-    let abs = c .before .before .abs in
-    let nan = c .before .is-nan in
+    let vs = s .args .values .now in
+    let middle = s .args .middle in
     let turn =
-    keeping-turn (deviations (s .args .middle)) (s .args .values .now) (s .args .work .now) (s .pre) (at .loop .work) (at .loop .n) (at .loop .i) (at .loop .inv)
-    (λ x. absOf (sub binary64 x (s .args .middle))) (λ x xs. refl) (search needs) (abs .result) (rw (abs .ensures, c .before .before .before .value-of .ensures)) (nan .result) (nan .ensures) in
-    ⊎-elim (λ a. rw (a .1, a .2) (turn .0 (a .0 .taken))) (λ b. rw (b .1, b .2) (turn .1 (b .0 .left))) (c .if1 .came)
+    keeping-turn (deviations middle) vs (s .args .work .now) (s .pre) (at .loop .work) (at .loop .n) (at .loop .i) (at .loop .inv)
+    (λ x. absOf (sub binary64 x middle)) (λ x xs. refl) (search needs) (absOf (sub binary64 (ofBits binary64 (getD vs (at .loop .i) 0)) middle)) refl (c .before .is-nan .result) (tested (c .before)) in
+    ⊎-elim (λ a. rw (a .2, a .3, a .1 .ensures, c .before .before .value-of .ensures) (turn .0 (a .0 .taken))) (λ b. rw (b .1, b .2) (turn .1 (b .0 .left))) (c .if1 .came)
+
+magnitude-requires : tie.Need-magnitude-requires Inv-loop μ-loop
+magnitude-requires c κs = let test = c .before .is-nan in sym (test .ensures) ∙ not-true (test .result) (c .if1 .taken)
 
 returns : tie.Need-returns Inv-loop μ-loop
 returns c =
@@ -41,4 +50,4 @@ returns c =
 pub keep-deviations-spec : {M : Type 1} → statement M
 keep-deviations-spec =
     tie.close
-    (tie.spec Inv-loop μ-loop loop-holds (λ c. search needs) (λ c. search needs) (λ c κs. search needs) (λ c κs. search needs) (λ c κs. search needs) (λ c. search needs) (λ c. search needs) (λ c. search needs) (λ c. search needs) (λ c. search needs) loop-again (λ c. search needs) returns)
+    (tie.spec Inv-loop μ-loop loop-holds (λ c. search needs) (λ c. search needs) (λ c κs. search needs) (λ c κs. search needs) magnitude-requires (λ c. search needs) (λ c. search needs) (λ c. search needs) (λ c. search needs) (λ c. search needs) loop-again (λ c. search needs) returns)

@@ -40,31 +40,31 @@ returns c =
 loop-holds : tie.Need-loop-holds Inv-loop μ-loop
 unfolding derivs
 loop-holds c =
-    let start = c .before .before .before .before .before .before in
+    let start = c .before .before .before .before .before in
     let ts = start .args .timestamps .now in
     let first = within-all ts (start .pre .2) 0 (omega arith) in
     let back = toZ-ofZ (within-fits tt first) in (
       search needs,
       rw back first,
-      record { size = start .pre .1; parts = rw (back, c .before .value-of .ensures, first-left ts 0 (pos 0) (omega arith), first-left (start .args .values .now) 0 0 (omega arith)) },
+      record { size = start .pre .1; parts = rw (back, c .before .read .ensures .0, first-left ts 0 (pos 0) (omega arith), first-left (start .args .values .now) 0 0 (omega arith)) },
     )
 
 next-requires : tie.Need-next-requires Inv-loop μ-loop
 next-requires c κs =
-    let at-loop = c .before .before .before .before in
-    let start = at-loop .before .before .before .before .before .before .before in
+    let at-loop = c .before .before .before in
+    let start = at-loop .before .before .before .before .before .before in
     let u = within-all (start .args .timestamps .now) (start .pre .2) (at-loop .loop .j + 1) (omega arith) in
     (at-loop .loop .inv .1, rw (toZ-ofZ (within-fits tt u)) u)
 
 loop-again : tie.Need-loop-again Inv-loop μ-loop
 unfolding derivsFrom
 loop-again c =
-    let at-loop = c .before .before .before .before .before .before in
-    let start = at-loop .before .before .before .before .before .before .before in
+    let at-loop = c .before .before .before .before .before in
+    let start = at-loop .before .before .before .before .before .before in
     let ts = start .args .timestamps .now in
     let j = at-loop .loop .j in
     let u = within-all ts (start .pre .2) (j + 1) (omega arith) in
-    let taken = rw (toZ-ofZ (within-fits tt u), c .before .before .before .value-of2 .ensures) at (c .before .next .ensures) in (
+    let taken = rw (toZ-ofZ (within-fits tt u), c .before .before .before .read2 .ensures .0) at (c .before .next .ensures) in (
       search needs,
       rw taken (sloped-within _ _ _ (at-loop .loop .inv .1) u),
       turn (omega arith) (rw (first-left ts (j + 1) (pos 0) (omega arith), first-left (start .args .values .now) (j + 1) 0 (omega arith), ← taken) at (at-loop .loop .inv .2)) (c .bits-of .ensures),
@@ -74,10 +74,16 @@ returns-2 : tie.Need-returns-2 Inv-loop μ-loop
 unfolding derivsFrom
 returns-2 c =
     let at-loop = c .before .before in
-    let none = drop-of-length-le (at-loop .before .before .before .before .before .before .before .args .timestamps .now) {i = at-loop .loop .j + 1} (omega arith) in
+    let none = drop-of-length-le (at-loop .before .before .before .before .before .before .args .timestamps .now) {i = at-loop .loop .j + 1} (omega arith) in
     last (omega arith) (omega arith) (rw none at (at-loop .loop .inv .2)) (c .bits-of2 .ensures)
+
+read-requires : tie.Need-read-requires Inv-loop μ-loop
+read-requires c κs = (c .before .before .before .pre .3, search needs)
+
+read-requires-2 : tie.Need-read-requires-2 Inv-loop μ-loop
+read-requires-2 c κs = (c .before .before .before .before .before .before .before .pre .3, search needs)
 
 pub deriv-values-spec : {M : Type 1} → statement M
 deriv-values-spec =
     tie.close
-    (tie.spec Inv-loop μ-loop returns (λ c. search needs) (λ c κs. search needs) (λ c. search needs) loop-holds (λ c. search needs) (λ c. search needs) (λ c. search needs) (λ c. search needs) (λ c κs. search needs) (λ c. search needs) (λ c. search needs) (λ c. search needs) next-requires (λ c κs. search needs) (λ c. search needs) (λ c. search needs) (λ c. search needs) (λ c. search needs) loop-again (λ c κs. search needs) (λ c. search needs) (λ c. search needs) (λ c. simp length-set (omega arith)) returns-2)
+    (tie.spec Inv-loop μ-loop returns read-requires (λ c. search needs) loop-holds (λ c. search needs) (λ c. search needs) read-requires-2 (λ c. search needs) (λ c. search needs) (λ c. search needs) next-requires (λ c κs. search needs) (λ c. search needs) (λ c. search needs) (λ c. search needs) (λ c. search needs) loop-again (λ c κs. search needs) (λ c. search needs) (λ c. search needs) (λ c. simp length-set (omega arith)) returns-2)

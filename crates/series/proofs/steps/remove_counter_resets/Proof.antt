@@ -21,14 +21,14 @@ abbrev μ-loop : tie.MeasureT-loop
 
 loop-holds : tie.Need-loop-holds Inv-loop μ-loop
 unfolding div neg ofBits
-loop-holds c = record { size = c .before .before .pre; parts = refl }
+loop-holds c = record { size = c .before .before .pre .0; parts = refl }
 
 loop-again : tie.Need-loop-again Inv-loop μ-loop
 unfolding resetsFrom
 loop-again c =
-    let at-loop = c .before .before .before .before .before in
+    let at-loop = c .before .before .before .before in
     let left = first-left (at-loop .before .before .before .args .values .now) (at-loop .loop .i) 0 (omega arith) in
-    turn (omega arith) (rw (left, ← c .before .before .value-of .ensures, ← c .before .next .ensures) at (at-loop .loop .inv)) (c .bits-of .ensures)
+    turn (omega arith) (rw (left, ← c .before .before .read .ensures .0, ← c .before .next .ensures) at (at-loop .loop .inv)) (c .bits-of .ensures)
 
 returns : tie.Need-returns Inv-loop μ-loop
 unfolding resetsFrom
@@ -36,7 +36,10 @@ returns c =
     let at-loop = c .before in
     done (omega arith) (rw (drop-of-length-le (at-loop .before .before .before .args .values .now) {i = at-loop .loop .i} (omega arith)) at (at-loop .loop .inv))
 
+read-requires : tie.Need-read-requires Inv-loop μ-loop
+read-requires c κs = (c .before .before .before .before .pre .1, search needs)
+
 pub remove-counter-resets-spec : {M : Type 1} → statement M
 remove-counter-resets-spec =
     tie.close
-    (tie.spec Inv-loop μ-loop loop-holds (λ c. search needs) (λ c. search needs) (λ c κs. search needs) (λ c κs. search needs) (λ c κs. search needs) (λ c. search needs) (λ c. search needs) (λ c. search needs) (λ c. search needs) loop-again (λ c. search needs) returns)
+    (tie.spec Inv-loop μ-loop loop-holds read-requires (λ c κs. search needs) (λ c κs. search needs) (λ c. search needs) (λ c. search needs) (λ c. search needs) (λ c. search needs) loop-again (λ c. search needs) returns)

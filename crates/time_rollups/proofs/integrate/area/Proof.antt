@@ -2,7 +2,7 @@
 -- Assumes nothing.
 use borrow.Author.Needs.{needs}
 use native.Mathlib.Omega.{arith}
-use Prim.Native.Nat.{_-_, _≤_}
+use Prim.Native.Nat.{_-_, _*_, _≤_}
 use Rattle.window.specs.Types.{recordLimit}
 use lib.ListN.{length}
 use lib.IntN.{natAbs}
@@ -21,7 +21,7 @@ Inv-loop v t values timestamps end prev-value₀ prev-timestamp₀ sum₀ i₀ p
     Folded extend (readings (floats values) timestamps)
     (foldFrom extend (record { value = v; time = toZ w64 t; sum = zeroF }) (readings (floats values) timestamps))
     (record { value = prev-value; time = toZ w64 prev-timestamp; sum = sum }) i
-    × (natAbs (toZ w64 prev-timestamp) ≤ 2 ^ 55)
+    × (natAbs (toZ w64 prev-timestamp) ≤ 2 * recordLimit)
 
 abbrev μ-loop : tie.MeasureT-loop
 μ-loop v t values timestamps end prev-value₀ prev-timestamp₀ sum₀ i₀ prev-value prev-timestamp sum i = length values - i

@@ -24,8 +24,8 @@ returns-3 c =
 returns-4 : tie.Need-returns-4
 unfolding zscoreOverTimeOf
 returns-4 c =
-    rw (← c .before .before .before .before .before .before .before .before .before .before .rollup-scrape-interval .ensures, ← c .before .before .before .before .before .before .before .before .before .rollup-lag .ensures, ← c .before .before .before .before .before .before .before .before .is-nan .ensures, c .before .before .before .before .before .before .before .if1 .left, ← c .before .before .before .before .before .before .is-nan2 .ensures, c .before .before .before .before .before .if2 .left, c .before .before .before .before .if3 .left, ← c .before .before .before .last .ensures, ← c .before .before .rollup-avg .ensures, ← c .before .rollup-stddev .ensures)
+    rw (← c .before .before .before .before .before .before .before .before .before .rollup-scrape-interval .ensures, ← c .before .before .before .before .before .before .before .before .rollup-lag .ensures, ← c .before .before .before .before .before .before .before .is-nan .ensures, c .before .before .before .before .before .before .if1 .left, ← c .before .before .before .before .before .is-nan2 .ensures, c .before .before .before .before .if2 .left, c .before .before .before .if3 .left, ← c .before .before .last .ensures, ← c .before .rollup-avg .ensures)
     (c .zscore-of .ensures)
 
 pub rollup-zscore-over-time-spec : {M : Type 1} → statement M
-rollup-zscore-over-time-spec = tie.close (tie.spec (λ c κs. search needs) (λ c κs. search needs) (λ c κs. search needs) (λ c κs. search needs) returns (λ c κs. search needs) (λ c κs. search needs) returns-2 (λ c κs. search needs) returns-3 (λ c κs. search needs) (λ c κs. search needs) (λ c κs. search needs) (λ c κs. search needs) returns-4)
+rollup-zscore-over-time-spec = tie.close (tie.spec (λ c κs. search needs) (λ c κs. search needs) (λ c κs. search needs) (λ c κs. search needs) returns (λ c κs. search needs) (λ c κs. search needs) returns-2 (λ c κs. search needs) returns-3 (λ c κs. search needs) (λ c κs. search needs) (λ c κs. search needs) returns-4)
