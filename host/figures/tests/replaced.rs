@@ -101,10 +101,12 @@ fn both_or_neither() {
     assert_eq!((full.status.code(), folder.names()), (Some(1), names));
 }
 
-/// A run that writes for some seconds, and has begun to.
+/// A run that writes for some seconds, and has begun to. It ignores no signal, even where the tests
+/// are run by a process that does.
 fn writing(folder: &Folder) -> Child {
     let line = "--rollup absent --step 1ms --start 0 --end 16777215 --output out.csv in.csv";
-    let mut command = Command::new(env!("CARGO_BIN_EXE_figures"));
+    let mut command = Command::new("env");
+    command.args(["--default-signal=HUP,INT,TERM", env!("CARGO_BIN_EXE_figures")]);
     let command = command.args(line.split(' ')).current_dir(folder.path());
     let child = command.stdout(Stdio::null()).stderr(Stdio::null()).spawn().unwrap();
     let part = folder.path().join(format!("out.csv.{}.part", child.id()));
