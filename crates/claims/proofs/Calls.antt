@@ -7,7 +7,7 @@ use native.Mathlib.Omega.{arith}
 use lib.ListN.{length, length-map}
 use lib.Ieee.{binary64, ofBits, toBits}
 use Rattle.config.specs.Rows.{settingsChecked, settledSettings}
-use Rattle.series.specs.Patterns.{floats, patterns}
+use Rattle.ieee.specs.Patterns.{floats, patterns}
 use Rattle.series.specs.Refusals.{firstOf}
 use Rattle.series.specs.Rows.{seriesChecked}
 use Rattle.series.specs.Steps.{preparedOf}

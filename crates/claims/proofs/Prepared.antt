@@ -10,7 +10,7 @@ use lib.Signed.{ltZ}
 use lib.Ieee.{Float, nan, binary64, fits, isNan, lt, ofBits, top}
 use lib.Ieee.Bits.{ofBits-fits, toBits-lt}
 use lib.Ieee.Fits.{add-fits, div-fits, inf-fits, sub-fits}
-use Rattle.series.specs.Patterns.{floats, patterns}
+use Rattle.ieee.specs.Patterns.{floats, patterns}
 use Rattle.series.specs.declared.steps.Counter.{Counter}
 use Rattle.series.specs.Steps.{counterAfter, deltas, deltasFrom, derivs, derivsFrom, intervalsFrom, lifted, preparedOf, resetsFrom, secondTwice, sloped, wholeSeconds}
 use Rattle.series.specs.declared.steps.PreFunction.{PreFunction}

@@ -8,8 +8,8 @@ use Rattle.ieee.specs.Value.{absOf, floorOf}
 use Rattle.math.specs.Deviation.{stdvarOf}
 use Rattle.math.specs.Mode.{modeOf}
 use Rattle.math.specs.Quantile.{quantileOf}
-use Rattle.math.specs.Sort.{sortBy}
-use Rattle.math.specs.Values.{kept}
+use Rattle.sort.specs.Sort.{sortBy}
+use Rattle.sort.specs.Values.{kept}
 use Rattle.times.specs.Readings.{filter}
 use Rattle.series.specs.Steps.{counterAfter, deltas, deltasFrom, derivs, derivsFrom, grown, intervalsFrom, lifted, preparedOf, resetsFrom, sloped}
 use Rattle.time_rollups.specs.Candlestick.{candlestick, closeOf, firstCandle}

@@ -7,7 +7,7 @@ use mathlib.Core.Bool.{false}
 use Prim.Native.Nat.{ℕ}
 use lib.IntN.{ℤ}
 use lib.Ieee.{binary64, isNan, ofBits, toBits}
-use Rattle.series.specs.Patterns.{floats, patterns}
+use Rattle.ieee.specs.Patterns.{floats, patterns}
 use Rattle.series.specs.Rows.{seriesChecked}
 use Rattle.series.specs.Steps.{preparedOf}
 use Rattle.series.specs.declared.refusal.Checked.the-variants.{Accepted}

@@ -8,7 +8,7 @@ use Rattle.config.specs.Estimate.{estimateOf}
 use Rattle.config.specs.Reach.{reachOf}
 use Rattle.rollup.specs.declared.handler.RollupHandler.{RollupHandler}
 use Rattle.rollup.specs.declared.handler.RollupHandler.the-variants.{ChangesPrometheus, Close, Delta, HoltWinters, Lag, Max, Min, ModeOverTime, Quantile, Stddev}
-use Rattle.series.specs.Patterns.{patterns}
+use Rattle.ieee.specs.Patterns.{patterns}
 use Rattle.series.specs.Steps.{preparedOf}
 use Rattle.series.specs.declared.steps.PreFunction.{PreFunction}
 use Rattle.series.specs.declared.steps.PreFunction.the-variants.{Resets, Delta as Deltas, Deriv, Intervals}

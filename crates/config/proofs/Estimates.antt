@@ -17,13 +17,13 @@ use lib.Ieee.Positive.{num, den, den-pos, through}
 use lib.ListN.{length, getD, take, length-take, length-map}
 use lib.Signed.{leZ}
 use Rattle.ieee.specs.Value.{floorOf}
-use Rattle.math.specs.Values.{kept}
-use Rattle.math.specs.Sort.{All, insertBy, sortBy}
-use Rattle.math.specs.Order.{sorted}
-use Rattle.math.specs.declared.sort.Order.the-variants.{Partial}
+use Rattle.sort.specs.Values.{kept}
+use Rattle.sort.specs.Sort.{All, insertBy, sortBy}
+use Rattle.sort.specs.Order.{sorted}
+use Rattle.sort.specs.declared.Order.the-variants.{Partial}
 use Rattle.math.specs.Quantile.{between, atRank, rankOf, quantileSorted, quantileOf}
-use Rattle.math.proofs.Filling.{length-kept}
-use Rattle.math.proofs.Sorting.{all-at, all-sort, all-take}
+use Rattle.sort.proofs.Kept.{length-kept}
+use Rattle.sort.proofs.Sorting.{all-at, all-sort, all-take}
 use Rattle.times.specs.Milli.{timeLimit, Within}
 use Rattle.times.specs.Later.{NotFalling}
 use Rattle.times.proofs.Order.{offset-of}

@@ -6,4 +6,6 @@ pub mod Units
 pub mod Order
 pub mod Whole
 pub mod Floors
+pub mod Folding
+pub mod Filling
 mod Examples

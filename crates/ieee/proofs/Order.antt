@@ -1,7 +1,7 @@
 -- The order of binary64 is an order of ℕ. Of two values that are not NaN, `<`, `==` and `<=` are those of their ranks; `totalLt` is that of the total
 -- ranks, for all values, and two values with one total rank are the same. Assumes nothing.
 use mathlib.Core.Path.{_≡_, refl, sym, ap, _∙_, subst}
-use mathlib.Core.Bool.{Bool, true, false, not, _&&_, _||_, and-true, and-false, or-false, true≢false}
+use mathlib.Core.Bool.{Bool, true, false, not, _&&_, _||_, Bool·beq, and-true, and-false, or-false, true≢false}
 use mathlib.Core.Logic.{_⊎_, inl, inr}
 use Prim.Native.Nat.{ℕ, zero, suc, _+_, _-_, _*_, _^_, _≤_, _<_}
 use native.Mathlib.Nat.{mul-assoc, mul-comm, mul-right-comm, add-mul, mul-pos, zero-mul, mul-lt-mul-of-pos-right, lt-of-mul-lt-mul-right, eq-of-mul-eq-mul-right, le-of-lt, le-refl, lt-irrefl, lt-of-lt-of-le, le-add-right, le-add-left, zero-lt-suc}
@@ -10,7 +10,7 @@ use lib.Dec.{T, leb, ltb, eqb, ltb→lt, lt→ltb, eqb→eq, leb→le, le→leb}
 use lib.IntN.{ℤ}
 use lib.Pow.{pow-pos}
 use lib.Ieee.{Float, nan, inf, fin, binary64, up, down, below, level, lt, eq, le, fits, isNan, toBits}
-use lib.Ieee.Fits.{down-pos, eq→eqb, and-l}
+use lib.Ieee.Fits.{down-pos, eq→eqb, and-l, and-r}
 use borrow.Author.Tests.{ltb-true, ltb-false, leb-true, lt-ltb, le-ltb, ne-eqb, le-leb}
 use Rattle.ieee.specs.Value.{negative, totalLt}
 use Rattle.ieee.proofs.Rank.{most, unitsOf, placed, rank, totalRank}
@@ -312,3 +312,10 @@ total-rank-injective x y f g h = go (nan-or-number x) (nan-or-number y)
     go (inl d) (inr q) = absurd (apart (totalRank y) (totalRank nan) (below-nan y g q) (sym h ∙ ap totalRank d))
     go (inr p) (inl e) = absurd (apart (totalRank x) (totalRank nan) (below-nan x f p) (h ∙ ap totalRank e))
     go (inr p) (inr q) = one-number x y f g p q h
+
+-- what a comparison of sizes with no sign says
+pub level-says : (s : Bool) (a b : ℕ) → level s a false b ≡ true → (a ≡ b) × (s ≡ true → b ≡ 0)
+level-says s a b h =
+    let t : T (eqb a b && (Bool·beq s false || eqb a 0)) = subst T (sym h) tt in
+    let same : a ≡ b = eqb→eq a b (and-l (eqb a b) _ t) in
+    (same, λ n. sym same ∙ eqb→eq a 0 (rw n at (and-r (eqb a b) _ t)))

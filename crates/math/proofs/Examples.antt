@@ -5,8 +5,8 @@ use mathlib.Core.List.{[], _∷_}
 use lib.IntN.{pos}
 use lib.Ieee.{Float, nan, inf, binary64, isNan, ofBits}
 use Rattle.ieee.specs.Value.{absOf, totalLt}
-use Rattle.math.specs.Values.{kept}
-use Rattle.math.specs.Sort.{sortBy}
+use Rattle.sort.specs.Values.{kept}
+use Rattle.sort.specs.Sort.{sortBy}
 use Rattle.math.specs.Quantile.{quantileOf, medianOf, madOf}
 use Rattle.math.specs.Deviation.{stdvarOf}
 use Rattle.math.specs.Mode.{modeOf}

@@ -1,8 +1,4 @@
 -- The definitions that the contracts of `math`, and of the crates above, cite: a file for each subject.
-pub mod Values
-pub mod Sort
-pub mod Order
-pub mod Ranges
 pub mod Quantile
 pub mod Deviation
 pub mod Mode

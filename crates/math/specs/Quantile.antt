@@ -7,9 +7,9 @@ use lib.IntN.{pos}
 use lib.ListN.{length, getD}
 use lib.Ieee.{Float, nan, inf, binary64, add, sub, mul, lt, isNan, ofBits, ofInt, toUnsigned}
 use Rattle.ieee.specs.Value.{absOf, floorOf}
-use Rattle.math.specs.Values.{kept}
-use Rattle.math.specs.Order.{sorted}
-use Rattle.math.specs.declared.sort.Order.the-variants.{Partial}
+use Rattle.sort.specs.Values.{kept}
+use Rattle.sort.specs.Order.{sorted}
+use Rattle.sort.specs.declared.Order.the-variants.{Partial}
 
 -- lower × (1 − w) + upper × w
 unfoldable pub between : Float → Float → Float → Float

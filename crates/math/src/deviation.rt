@@ -1,7 +1,7 @@
 // The variance and the standard deviation of a window, by the running mean.
 
 ghost use mathlib.Core.Path.{_≡_};
-ghost use Rattle.math.specs.Values.{floats};
+ghost use Rattle.ieee.specs.Patterns.{floats};
 ghost use Rattle.math.specs.Deviation.{stdvarOf, stddevOf};
 
 // The variance of the values: NaN of none, 0.0 of one. NaN is passed over among two or more.

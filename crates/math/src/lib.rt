@@ -5,4 +5,3 @@ pub mod deviation;
 pub mod mode;
 pub mod quantile;
 pub mod regression;
-pub mod sort;

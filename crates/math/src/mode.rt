@@ -1,11 +1,10 @@
 // The mode of a window: the value that stands most often in a row among the sorted samples, with the
 // predecessor standing before them for one sample.
 
-use crate::sort;
 ghost use mathlib.Core.Path.{_≡_};
 ghost use Prim.Native.Nat.{_*_, _≤_};
 ghost use lib.ListN.{length, drop};
-ghost use Rattle.math.specs.Values.{floats};
+ghost use Rattle.ieee.specs.Patterns.{floats};
 ghost use Rattle.math.specs.Mode.{isOutdone, modeSorted, modeOf};
 
 // Whether a run is longer than those before it, or the mode of those is NaN.

@@ -6,7 +6,7 @@ ghost use lib.IntN.{pos, _-ℤ_};
 ghost use lib.ListN.{length, getD};
 ghost use mir.Syntax.{w64};
 ghost use mir.Val.{SFits};
-ghost use Rattle.math.specs.Values.{floats};
+ghost use Rattle.ieee.specs.Patterns.{floats};
 ghost use Rattle.math.specs.Regression.{areConst, noSums, sumsFrom, lineOf, regressionOf};
 
 // A line's value at the intercept time, and its slope in a second.

@@ -1,9 +1,9 @@
 // Replays the list `sort`. A case's words are an order's number, the number of values, the values, and the
 // values as the Rust sorts them.
 use libc::STDIN_FILENO;
-use math::sort::Order;
 use replay::Case;
 use replay::Tally;
+use sort::Order;
 use vectors::STEP;
 ghost use Prim.Native.Nat.{_*_, _≤_};
 ghost use lib.ListN.{length};
@@ -14,7 +14,7 @@ fn sort_numbers(values: &[u64], work: &mut [f64]) -> usize
     requires { ⌜ 2 * length (now values) ≤ length (now work) ⌝ }
 {
     let n = math::quantile::keep(values, work);
-    math::sort::sort(Order::Partial, &mut work[..2 * n]);
+    sort::sort(Order::Partial, &mut work[..2 * n]);
     n
 }
 
@@ -27,7 +27,7 @@ fn sort(op: u64, values: &[u64], work: &mut [f64]) -> usize
         return sort_numbers(values, work);
     }
     if op == 9 {
-        math::sort::sort_values(values, work);
+        sort::sort_values(values, work);
         return values.len();
     }
     0

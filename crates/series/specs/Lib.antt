@@ -1,4 +1,3 @@
-pub mod Patterns
 pub mod Steps
 pub mod Refusals
 pub mod Answers

@@ -5,7 +5,7 @@ use Prim.Native.Nat.{ℕ}
 use lib.IntN.{ℤ}
 use lib.ListN.{length, drop}
 use Rattle.series.specs.Answers.{Outcome, outcomeOf}
-use Rattle.series.specs.Patterns.{floats, patterns}
+use Rattle.ieee.specs.Patterns.{floats, patterns}
 use Rattle.series.specs.Refusals.{firstOf}
 use Rattle.series.specs.Rows.{seriesChecked, row13}
 use Rattle.series.specs.Steps.{preparedOf}

@@ -15,7 +15,7 @@ pub use steps::PreFunction;
 ghost use mathlib.Core.Path.{_≡_};
 ghost use lib.ListN.{length};
 ghost use Rattle.series.specs.Answers.{checkedReply, outcome};
-ghost use Rattle.series.specs.Patterns.{floats, patterns};
+ghost use Rattle.ieee.specs.Patterns.{floats, patterns};
 ghost use Rattle.series.specs.Prepare.{prepareOf};
 ghost use Rattle.series.specs.Rows.{seriesChecked};
 ghost use Rattle.series.specs.Steps.{preparedOf};

@@ -1,7 +1,7 @@
 // The preparing steps, from the values' patterns to the prepared ones, one pass each.
 
 ghost use mathlib.Core.Path.{_≡_};
-ghost use Rattle.series.specs.Patterns.{floats, patterns};
+ghost use Rattle.ieee.specs.Patterns.{floats, patterns};
 ghost use mathlib.Core.Bool.{true};
 ghost use Prim.Native.Nat.{_<_};
 ghost use lib.Ieee.{binary64, ofBits};

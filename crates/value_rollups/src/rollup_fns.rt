@@ -251,6 +251,6 @@ pub fn rollup_distinct(rfa: RollupFuncArg, values: &[u64], work: &mut [f64]) -> 
     if values.len() == 0 {
         return nan();
     }
-    math::sort::sort_values(values, work);
+    sort::sort_values(values, work);
     ieee::of_count(count_distinct(&work[..values.len()]))
 }

@@ -6,12 +6,12 @@ use mathlib.Core.Bool.{Bool, true, false, cond}
 use Prim.Native.Nat.{ℕ, zero, suc}
 use lib.ListN.{drop}
 use lib.IntN.{ℤ, pos}
-use Rattle.math.specs.Values as Values
+use Rattle.ieee.specs.Patterns as Patterns
 use lib.Ieee.{Float, nan, binary64, div, isNan, lt, ofBits, ofInt}
 
--- the values that a window's patterns stand for, as math reads them
+-- the values that a window's patterns stand for, as ieee reads them
 unfoldable pub floats : List ℕ → List Float
-floats bs = Values.floats bs
+floats bs = Patterns.floats bs
 
 -- each value with its time
 unfoldable pub readings : List Float → List ℤ → List (Float × ℤ)

@@ -10,9 +10,9 @@ use borrow.Author.Needs.{needs}
 use borrow.Author.Tests.{not-true, not-false, eq-eqb, ne-eqb}
 use lib.ListN.{length, drop}
 use lib.Ieee.{Float, nan, isNan, binary64, ofBits, div}
-use Rattle.math.specs.Values.{floats}
+use Rattle.ieee.specs.Patterns.{floats}
 use Rattle.math.specs.Deviation.{Spread, spreadStep, spreadWith, variance, stdvarOf}
-use Rattle.math.proofs.Folding.{values-turn, values-end}
+use Rattle.ieee.proofs.Folding.{values-turn, values-end}
 use Rattle.math.proofs.deviation.stdvar.Statement.{statement}
 use Rattle.math.proofs.deviation.stdvar.Tie as tie
 

@@ -9,7 +9,7 @@ use borrow.Author.Needs.{needs}
 use lib.ListN.{length, drop, getD}
 use lib.Ieee.{Float, nan, eq}
 use Rattle.math.specs.Mode.{Runs, longest, modeWith, runStep, modeSorted}
-use Rattle.math.proofs.Folding.{fold-turn, fold-end}
+use Rattle.ieee.proofs.Folding.{fold-turn, fold-end}
 use Rattle.math.proofs.mode.mode_sorted.Statement.{statement}
 use Rattle.math.proofs.mode.mode_sorted.Tie as tie
 

@@ -8,7 +8,7 @@ use borrow.Author.Needs.{needs}
 use borrow.Author.Tests.{not-true}
 use lib.ListN.{length, getD}
 use lib.Ieee.{Float, binary64, ofBits}
-use Rattle.math.proofs.Filling.{Keeping, keeping-start, keeping-turn, keeping-end}
+use Rattle.math.proofs.Kept.{Keeping, keeping-start, keeping-turn, keeping-end}
 use Rattle.math.proofs.quantile.keep.Statement.{statement}
 use Rattle.math.proofs.quantile.keep.Tie as tie
 

@@ -10,7 +10,7 @@ use lib.Ieee.{binary64, isNan, ofBits, sub}
 use Rattle.ieee.specs.Value.{absOf}
 use Rattle.ieee.proofs.Patterns.{abs-nan}
 use Rattle.math.specs.Quantile.{deviations}
-use Rattle.math.proofs.Filling.{Keeping, keeping-start, keeping-turn, keeping-end}
+use Rattle.math.proofs.Kept.{Keeping, keeping-start, keeping-turn, keeping-end}
 use Rattle.math.proofs.quantile.keep_deviations.Statement.{statement}
 use Rattle.math.proofs.quantile.keep_deviations.Tie as tie
 

@@ -7,9 +7,9 @@ use native.Mathlib.Omega.{arith}
 use borrow.Author.Needs.{needs}
 use lib.ListN.{length, length-map}
 use lib.Ieee.{Float, binary64, ofBits}
-use Rattle.math.specs.Values.{floats}
+use Rattle.ieee.specs.Patterns.{floats}
 use Rattle.math.specs.Quantile.{deviations, medianOf}
-use Rattle.math.proofs.Filling.{kept-ready, kept-quantile}
+use Rattle.math.proofs.Kept.{kept-ready, kept-quantile}
 use Rattle.math.proofs.quantile.mad.Statement.{statement}
 use Rattle.math.proofs.quantile.mad.Tie as tie
 

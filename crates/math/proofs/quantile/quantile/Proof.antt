@@ -2,8 +2,9 @@
 -- Assumes nothing.
 use borrow.Author.Needs.{needs}
 use lib.ListN.{length, length-map}
-use Rattle.math.specs.Values.{floats, kept}
-use Rattle.math.proofs.Filling.{kept-ready, kept-quantile}
+use Rattle.ieee.specs.Patterns.{floats}
+use Rattle.sort.specs.Values.{kept}
+use Rattle.math.proofs.Kept.{kept-ready, kept-quantile}
 use Rattle.math.proofs.quantile.quantile.Statement.{statement}
 use Rattle.math.proofs.quantile.quantile.Tie as tie
 

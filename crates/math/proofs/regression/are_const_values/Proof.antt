@@ -9,9 +9,9 @@ use borrow.Author.Needs.{needs}
 use borrow.Author.Tests.{not-true, not-false}
 use lib.ListN.{length, drop, getD}
 use lib.Ieee.{Float, eq, ne, binary64, ofBits}
-use Rattle.math.specs.Values.{floats}
+use Rattle.ieee.specs.Patterns.{floats}
 use Rattle.math.specs.Regression.{constAfter, areConst}
-use Rattle.math.proofs.Folding.{floats-cons, floats-none}
+use Rattle.ieee.proofs.Folding.{floats-cons, floats-none}
 use Rattle.math.proofs.regression.are_const_values.Statement.{statement}
 use Rattle.math.proofs.regression.are_const_values.Tie as tie
 

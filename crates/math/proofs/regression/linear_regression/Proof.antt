@@ -11,7 +11,7 @@ use mir.Syntax.{w64}
 use mir.ValLaws.{toZ-ofZ}
 use lib.ListN.{length, getD, length-map}
 use lib.Ieee.{nan, binary64, div, ofBits, ofInt}
-use Rattle.math.specs.Values.{floats}
+use Rattle.ieee.specs.Patterns.{floats}
 use Rattle.math.specs.Regression.{areConst, noSums, sumsFrom, lineOf, regressionOf}
 use Rattle.math.proofs.regression.linear_regression.Statement.{statement}
 use Rattle.math.proofs.regression.linear_regression.Tie as tie

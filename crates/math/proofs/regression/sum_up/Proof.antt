@@ -12,10 +12,10 @@ use mir.ValLaws.{toZ-ofZ}
 use lib.ListN.{length, drop, getD}
 use lib.Seq.{drop-cons}
 use lib.Ieee.{binary64, ofBits}
-use Rattle.math.specs.Values.{floats}
+use Rattle.ieee.specs.Patterns.{floats}
 use Rattle.math.specs.declared.regression.Sums.{Sums}
 use Rattle.math.specs.Regression.{noSums, secondsFrom, sumsFrom, sumsWith}
-use Rattle.math.proofs.Folding.{floats-cons, floats-none}
+use Rattle.ieee.proofs.Folding.{floats-cons, floats-none}
 use Rattle.math.proofs.regression.sum_up.Statement.{statement}
 use Rattle.math.proofs.regression.sum_up.Tie as tie
 

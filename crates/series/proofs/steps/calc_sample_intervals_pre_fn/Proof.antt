@@ -9,7 +9,7 @@ use lib.ListN.{length, getD, set, drop, length-set, drop-of-length-le}
 use lib.IntN.{pos}
 use lib.Ieee.{Float, nan, div, ofBits}
 use Rattle.times.proofs.Milli.{read-back}
-use Rattle.series.specs.Patterns.{patterns}
+use Rattle.ieee.specs.Patterns.{patterns}
 use Rattle.series.specs.Steps.{wholeSeconds, intervalsFrom, secondTwice}
 use Rattle.series.proofs.Written.{Written, turn, done, first-left}
 use Rattle.series.proofs.steps.calc_sample_intervals_pre_fn.Statement.{statement}

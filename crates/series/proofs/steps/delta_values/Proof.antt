@@ -8,7 +8,7 @@ use borrow.Author.Needs.{needs}
 use lib.ListN.{length, drop, length-set, drop-of-length-le}
 use lib.Ieee.{binary64, isNan, ofBits, sub}
 use lib.Ieee.Scale.{finite}
-use Rattle.series.specs.Patterns.{floats, patterns}
+use Rattle.ieee.specs.Patterns.{floats, patterns}
 use Rattle.series.specs.Steps.{deltas, deltasFrom}
 use Rattle.series.proofs.Numbers.{finite-number, sub-number}
 use Rattle.series.proofs.Written.{Written, turn, last, first-left}

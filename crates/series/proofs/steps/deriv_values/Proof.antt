@@ -12,7 +12,7 @@ use Rattle.times.specs.Milli.{timeLimit, Within}
 use Rattle.times.proofs.Milli.{within-fits}
 use Rattle.times.proofs.Order.{by-test}
 use Rattle.series.specs.declared.steps.Slope.{Slope}
-use Rattle.series.specs.Patterns.{floats, patterns}
+use Rattle.ieee.specs.Patterns.{floats, patterns}
 use Rattle.series.specs.Steps.{derivs, derivsFrom, sloped}
 use Rattle.series.proofs.Times.{within-all}
 use Rattle.series.proofs.Written.{Written, turn, last, first-left}

@@ -6,7 +6,7 @@ use native.Mathlib.Omega.{arith}
 use borrow.Author.Needs.{needs}
 use lib.ListN.{length, drop, drop-of-length-le}
 use lib.Ieee.{div, neg, ofBits}
-use Rattle.series.specs.Patterns.{floats, patterns}
+use Rattle.ieee.specs.Patterns.{floats, patterns}
 use Rattle.series.specs.Steps.{resets, resetsFrom}
 use Rattle.series.proofs.Written.{Written, turn, done, first-left}
 use Rattle.series.proofs.steps.remove_counter_resets.Statement.{statement}
