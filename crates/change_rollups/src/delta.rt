@@ -7,7 +7,7 @@ use window::types::nan;
 use window::types::rest;
 use window::types::value_at;
 ghost use mathlib.Core.Path.{_≡_};
-ghost use Rattle.window.specs.Window.{floats};
+ghost use Rattle.ieee.specs.Patterns.{floats};
 ghost use Rattle.change_rollups.specs.Delta.{deltaFrom, deltaOf, deltaPrometheusOf, firstStep, ideltaOf, startsLow};
 
 // The last value less prev_value, 0.0 where there is no value.

@@ -12,7 +12,7 @@ use window::types::value_at;
 ghost use mathlib.Core.Path.{_≡_};
 ghost use Prim.Native.Nat.{_≤_};
 ghost use lib.ListN.{length};
-ghost use Rattle.window.specs.Window.{floats};
+ghost use Rattle.ieee.specs.Patterns.{floats};
 ghost use Rattle.change_rollups.specs.RollupFns.{ascentOverTimeOf, belowTolerance, changesFrom, changesOf, changesPrometheusOf, descentOverTimeOf, gap, increasePureOf, increasesOf, isChange, resetsOf, slideFrom, slideOf, stepsFrom, stepsOf};
 
 // The last value less the predecessor, which is 0.0 where there is none.

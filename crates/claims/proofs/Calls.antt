@@ -62,6 +62,7 @@ module _ (c : Call) where
     rows-accept = all-accept (rowsBy c (c .settings)) (sym checked-is ∙ ok)
 
     pub prepared-samples : length (preparedSeries (plan c)) ≡ samples c
+    unfolding floats
     prepared-samples = go (c .settings)
       where
         same : length (c .times) ≡ length (patterns (preparedOf (c .pre) (c .times) (floats (c .values))))

@@ -25,6 +25,7 @@ abbrev Fits : Float → Type 0
 Fits x = T (fits binary64 x)
 
 floats-fit : (bs : List ℕ) → All Fits (floats bs)
+unfolding floats
 floats-fit [] = tt
 floats-fit (b ∷ bs) = (ofBits-fits binary64 b, floats-fit bs)
 
@@ -63,7 +64,7 @@ second-fits (x ∷ []) f = f
 second-fits (x ∷ y ∷ ys) f = (f .1 .0, f .1)
 
 prepared-fit : (pre : PreFunction) (ts : List ℤ) (bs : List ℕ) → All Fits (preparedOf pre ts (floats bs))
-unfolding preparedOf deltas derivs
+unfolding floats preparedOf deltas derivs
 prepared-fit None ts bs = floats-fit bs
 prepared-fit Resets ts bs = resets-fit _ (inf-fits binary64 _) (floats bs)
 prepared-fit Delta ts [] = tt

@@ -78,6 +78,7 @@ all-kept P [] a = tt
 all-kept P (x ∷ xs) a = cases (isNan x) (λ e. rw e (all-kept P xs (a .1))) (λ e. rw e (a .0, all-kept P xs (a .1)))
 
 all-floats : (bs : List ℕ) → All (λ x. T (fits binary64 x)) (floats bs)
+unfolding floats
 all-floats [] = tt
 all-floats (b ∷ bs) = (ofBits-fits binary64 b, all-floats bs)
 

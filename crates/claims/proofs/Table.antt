@@ -19,7 +19,8 @@ use Rattle.value_rollups.specs.HoltWinters.{holtWintersOf, outOfRange, smoothFr
 use Rattle.value_rollups.specs.RollupFns.{maxOf, minOf}
 use Rattle.change_rollups.specs.RollupFns.{changesFrom, changesPrometheusOf}
 use Rattle.time_rollups.specs.RollupFns.{lagOf}
-use Rattle.window.specs.Window.{firstOr, floats, foldFrom, isEmpty, lastOr, upToLast}
+use Rattle.ieee.specs.Patterns.{floats}
+use Rattle.window.specs.Window.{firstOr, foldFrom, isEmpty, lastOr, upToLast}
 use Rattle.config.specs.Estimate.{distances, distancesFrom, estimateOf}
 use Rattle.config.specs.Reach.{reachOf}
 use Rattle.run.specs.Figures.{scans}

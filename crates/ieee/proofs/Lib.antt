@@ -6,6 +6,7 @@ pub mod Units
 pub mod Order
 pub mod Whole
 pub mod Floors
+pub mod Floats
 pub mod Folding
 pub mod Filling
 mod Examples

@@ -5,7 +5,7 @@ use Prim.Native.Nat.{ℕ}
 use lib.Ieee.{Float, binary64, ofBits, toBits}
 
 -- the values that a list of patterns stands for
-abbrev pub floats : List ℕ → List Float
+unfoldable pub floats : List ℕ → List Float
 floats bs = map (ofBits binary64) bs
 
 -- the patterns of a list of values; NaN's is 0x7FF8000000000000

@@ -11,7 +11,8 @@ use Rattle.math.specs.Deviation.{stddevOf, stdvarOf}
 use Rattle.math.specs.Mode.{modeOf}
 use Rattle.window.specs.declared.types.RollupFuncArg.{RollupFuncArg}
 use Rattle.window.specs.Types.{Ranged}
-use Rattle.window.specs.Window.{floats, firstOf, lastOf}
+use Rattle.ieee.specs.Patterns.{floats}
+use Rattle.window.specs.Window.{firstOf, lastOf}
 use Rattle.value_rollups.specs.RollupFns.{avgOf, minOf, maxOf, sumOf, sum2Of, rateOverSumOf, rangeOf, absentOf, presentOf, countOf, distinctOf}
 use Rattle.value_rollups.specs.HoltWinters.{holtWintersOf}
 use Rattle.change_rollups.specs.RollupFns.{increasePureOf, changesOf, changesPrometheusOf, increasesOf, resetsOf, ascentOverTimeOf, descentOverTimeOf}

@@ -52,7 +52,7 @@ use window::types::RollupFuncArg;
 ghost use mathlib.Core.Path.{_≡_};
 ghost use Prim.Native.Nat.{_*_};
 ghost use lib.ListN.{drop, length};
-ghost use Rattle.window.specs.Window.{floats};
+ghost use Rattle.ieee.specs.Patterns.{floats};
 ghost use Rattle.rollup.specs.Eval.{Ready, evalOf, figureOf, scannedPerCall};
 
 // The rollups, in the order of their numbers (docs/ROLLUPS.md).

@@ -5,8 +5,9 @@ use mathlib.Core.Path.{_≡_}
 use mathlib.Core.List.{List}
 use lib.IntN.{ℤ}
 use lib.Signed.{ltZ}
-use Rattle.window.specs.Window.{floats, upToLast}
-use Rattle.window.proofs.Window.{take-values}
+use Rattle.ieee.specs.Patterns.{floats}
+use Rattle.window.specs.Window.{upToLast}
+use Rattle.ieee.proofs.Floats.{take-values}
 use Rattle.time_rollups.specs.Candlestick.{candlestick}
 
 -- the values before the last reading below t are those of the patterns before it

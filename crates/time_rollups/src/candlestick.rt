@@ -13,7 +13,7 @@ use window::types::seed;
 ghost use mathlib.Core.Path.{_≡_};
 ghost use lib.ListN.{length};
 ghost use Rattle.window.specs.Types.{Ranged};
-ghost use Rattle.window.specs.Window.{floats};
+ghost use Rattle.ieee.specs.Patterns.{floats};
 ghost use Rattle.time_rollups.specs.Candlestick.{candlestick, closeOf, extremeCandle, firstCandle, highOf, lowOf, openOf};
 
 // The values before the last reading whose time is below the output time.

@@ -13,7 +13,7 @@ use window::types::value_at;
 ghost use mathlib.Core.Path.{_≡_};
 ghost use lib.ListN.{length};
 ghost use Rattle.window.specs.Types.{AllInRange, InRange, Ranged};
-ghost use Rattle.window.specs.Window.{floats};
+ghost use Rattle.ieee.specs.Patterns.{floats};
 ghost use Rattle.time_rollups.specs.Deriv.{derivFastOf, derivSlowOf, iderivOf, slopeFrom};
 
 // The slope of the regression's line.

@@ -14,7 +14,8 @@ ghost use Prim.Native.Nat.{_≤_, _^_};
 ghost use lib.ListN.{length};
 ghost use lib.IntN.{natAbs};
 ghost use Rattle.window.specs.Types.{AllInRange, InRange, Ranged};
-ghost use Rattle.window.specs.Window.{floats, readings};
+ghost use Rattle.ieee.specs.Patterns.{floats};
+ghost use Rattle.window.specs.Window.{readings};
 ghost use Rattle.time_rollups.specs.Integrate.{areaFrom, integrateOf};
 
 // The area from a reading over the window up to the time end.

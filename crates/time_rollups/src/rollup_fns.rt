@@ -18,7 +18,8 @@ ghost use lib.ListN.{length};
 ghost use lib.Ieee.{ne};
 ghost use Rattle.math.specs.Deviation.{stddevOf};
 ghost use Rattle.window.specs.Types.{Ranged};
-ghost use Rattle.window.specs.Window.{floats, upToLast};
+ghost use Rattle.ieee.specs.Patterns.{floats};
+ghost use Rattle.window.specs.Window.{upToLast};
 ghost use Rattle.time_rollups.specs.RollupFns.{atLeast, changedUpTo, extremeTime, lagOf, lifetimeOf, predictFrom, predictLinearOf, scrapeIntervalOf, tfirstOf, tlastChangeOf, tlastOf, tmaxOf, tminOf, zscoreFrom, zscoreOverTimeOf};
 
 // Whether v is no less than m, or, where the way is down, no greater.

@@ -6,7 +6,7 @@ use window::types::nan;
 use window::types::rest;
 use window::types::value_at;
 ghost use mathlib.Core.Path.{_≡_};
-ghost use Rattle.window.specs.Window.{floats};
+ghost use Rattle.ieee.specs.Patterns.{floats};
 ghost use Rattle.value_rollups.specs.HoltWinters.{holtWintersOf, outOfRange, smoothFrom};
 
 // Whether a factor lies at or below 0.0, or at or above 1.0.

@@ -5,7 +5,7 @@ ghost use mathlib.Core.Path.{_≡_};
 ghost use Prim.Native.Nat.{_*_, _≤_};
 ghost use lib.ListN.{length};
 ghost use Rattle.math.specs.Quantile.{quantileOf};
-ghost use Rattle.window.specs.Window.{floats};
+ghost use Rattle.ieee.specs.Patterns.{floats};
 
 // The quantile phi of the values.
 pub fn rollup_quantile(rfa: RollupFuncArg, values: &[u64], work: &mut [f64], phi: f64) -> f64

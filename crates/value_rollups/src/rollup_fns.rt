@@ -11,7 +11,8 @@ ghost use lib.ListN.{length};
 ghost use Rattle.math.specs.Deviation.{stddevOf, stdvarOf};
 ghost use Rattle.math.specs.Mode.{modeOf};
 ghost use Rattle.math.specs.Quantile.{madOf, medianOf};
-ghost use Rattle.window.specs.Window.{beyond, firstOf, floats, foldFrom, further, lastOf};
+ghost use Rattle.ieee.specs.Patterns.{floats};
+ghost use Rattle.window.specs.Window.{beyond, firstOf, foldFrom, further, lastOf};
 ghost use Rattle.value_rollups.specs.RollupFns.{absentOf, avgOf, countOf, distinctFrom, distinctOf, maxOf, minOf, presentOf, rangeOf, rateOverSumOf, sum2Of, sumOf, totalOf};
 
 // The values added up from +0.0.

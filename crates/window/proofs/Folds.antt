@@ -10,8 +10,9 @@ use lib.Seq.{drop-cons}
 use lib.IntN.{ℤ, pos}
 use native.Mathlib.Nat.{le-of-suc-le-suc, not-suc-le-zero}
 use lib.Ieee.{Float, nan, binary64, ofBits}
-use Rattle.window.specs.Window.{floats, readings, foldFrom}
-use Rattle.window.proofs.Window.{length-floats, getD-floats}
+use Rattle.ieee.specs.Patterns.{floats}
+use Rattle.window.specs.Window.{readings, foldFrom}
+use Rattle.ieee.proofs.Floats.{length-floats, getD-floats}
 
 -- the fold from s over the items from i on is the whole
 pub record Folded {A S : Type 0} (step : S → A → S) (xs : List A) (whole s : S) (i : ℕ) : Type 0 where

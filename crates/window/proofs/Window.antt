@@ -12,30 +12,9 @@ use lib.Seq.{take-all}
 use lib.Dec.{eqb}
 use borrow.Author.Tests.{eq-eqb, ne-eqb}
 use lib.Ieee.{Float, nan, binary64, isNan, ofBits}
-use Rattle.window.specs.Window.{floats, isEmpty, firstOr, lastOr, firstOf, lastOf, seeded}
-
-pub length-floats : (l : List ℕ) → length (floats l) ≡ length l
-unfolding floats
-length-floats [] = refl
-length-floats (b ∷ l) = ap suc (length-floats l)
-
-pub getD-floats : (l : List ℕ) (i : ℕ) (d : Float) → i < length l → getD (floats l) i d ≡ ofBits binary64 (getD l i 0)
-unfolding floats
-getD-floats [] i d h = absurd (not-suc-le-zero h)
-getD-floats (b ∷ l) zero d h = refl
-getD-floats (b ∷ l) (suc i) d h = getD-floats l i d (le-of-suc-le-suc h)
-
-pub rest-values : (n : ℕ) (l : List ℕ) → drop n (floats l) ≡ floats (drop n l)
-unfolding floats
-rest-values zero l = refl
-rest-values (suc n) [] = refl
-rest-values (suc n) (b ∷ l) = rest-values n l
-
-pub take-values : (n : ℕ) (l : List ℕ) → take n (floats l) ≡ floats (take n l)
-unfolding floats
-take-values zero l = refl
-take-values (suc n) [] = refl
-take-values (suc n) (b ∷ l) = ap (λ (r : List Float). ofBits binary64 b ∷ r) (take-values n l)
+use Rattle.ieee.specs.Patterns.{floats}
+use Rattle.ieee.proofs.Floats.{length-floats, getD-floats}
+use Rattle.window.specs.Window.{isEmpty, firstOr, lastOr, firstOf, lastOf, seeded}
 
 -- the part after the first item, and the one before the last
 pub empty-rest : {A : Type 0} (l : List A) → length l ≡ 0 → l ≡ drop 1 l

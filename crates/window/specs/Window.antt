@@ -6,12 +6,7 @@ use mathlib.Core.Bool.{Bool, true, false, cond}
 use Prim.Native.Nat.{ℕ, zero, suc}
 use lib.ListN.{drop}
 use lib.IntN.{ℤ, pos}
-use Rattle.ieee.specs.Patterns as Patterns
 use lib.Ieee.{Float, nan, binary64, div, isNan, lt, ofBits, ofInt}
-
--- the values that a window's patterns stand for, as ieee reads them
-unfoldable pub floats : List ℕ → List Float
-floats bs = Patterns.floats bs
 
 -- each value with its time
 unfoldable pub readings : List Float → List ℤ → List (Float × ℤ)

@@ -8,7 +8,8 @@ ghost use lib.IntN.{natAbs, pos, _-ℤ_};
 ghost use lib.Signed.{ltZ};
 ghost use lib.Ieee as Ieee;
 ghost use lib.Ieee.{binary64, isNan, ofBits};
-ghost use Rattle.window.specs.Window.{firstOf, firstOr, floats, lastOf, lastOr, secondsF, upToLast};
+ghost use Rattle.ieee.specs.Patterns.{floats};
+ghost use Rattle.window.specs.Window.{firstOf, firstOr, lastOf, lastOr, secondsF, upToLast};
 
 pub struct RollupFuncArg {
     // The value of the last reading at or before the window's start, if that reading is later than the start

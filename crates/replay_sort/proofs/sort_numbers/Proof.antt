@@ -19,9 +19,11 @@ use Rattle.replay_sort.proofs.sort_numbers.Tie as tie
 -- a slice before and after n values were kept at its front
 module _ (values : List ℕ) (w₀ w : List Float) (n : ℕ) (size : n ≡ length (kept (floats values))) (is : w ≡ kept (floats values) ++ drop n w₀) (room : 2 * length values ≤ length w₀) (long : length w ≡ length w₀) where
   fits : 2 * n ≤ length w
+  unfolding floats
   fits = kept-fits (floats values) w₀ w n (length values) (length-map values (ofBits binary64)) size is room long
 
   sortable : Sortable Partial (take (length (take (2 * n) w) / 2) (take (2 * n) w))
+  unfolding floats
   sortable = rw (first-half n w fits) (kept-sortable (floats values) w₀ w n (length values) (length-map values (ofBits binary64)) size is)
 
 mul-sort : tie.Need-mul-sort

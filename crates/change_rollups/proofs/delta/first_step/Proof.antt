@@ -3,7 +3,7 @@
 use borrow.Author.Needs.{needs}
 use borrow.Author.Tests.{lt-ltb, le-ltb}
 use lib.Ieee.{nan}
-use Rattle.window.proofs.Window.{length-floats, getD-floats}
+use Rattle.ieee.proofs.Floats.{length-floats, getD-floats}
 use Rattle.change_rollups.specs.Delta.{firstStep}
 use Rattle.change_rollups.proofs.delta.first_step.Statement.{statement}
 use Rattle.change_rollups.proofs.delta.first_step.Tie as tie

@@ -1,7 +1,8 @@
 -- `change_rollups::delta::rollup_delta` meets its contract: each test is one of the definition.
 -- Assumes nothing.
 use borrow.Author.Needs.{needs}
-use Rattle.window.proofs.Window.{no-values, some-values, rest-values}
+use Rattle.ieee.proofs.Floats.{rest-values}
+use Rattle.window.proofs.Window.{no-values, some-values}
 use Rattle.change_rollups.specs.Delta.{deltaOf}
 use Rattle.change_rollups.proofs.delta.rollup_delta.Statement.{statement}
 use Rattle.change_rollups.proofs.delta.rollup_delta.Tie as tie

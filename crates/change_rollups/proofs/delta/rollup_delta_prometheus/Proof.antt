@@ -2,7 +2,7 @@
 -- Assumes nothing.
 use borrow.Author.Needs.{needs}
 use borrow.Author.Tests.{lt-ltb, le-ltb}
-use Rattle.window.proofs.Window.{length-floats}
+use Rattle.ieee.proofs.Floats.{length-floats}
 use Rattle.change_rollups.specs.Delta.{deltaPrometheusOf}
 use Rattle.change_rollups.proofs.delta.rollup_delta_prometheus.Statement.{statement}
 use Rattle.change_rollups.proofs.delta.rollup_delta_prometheus.Tie as tie

@@ -6,7 +6,8 @@ use Prim.Native.Nat.{_-_, _<_}
 use lib.ListN.{length}
 use lib.Ieee.{nan}
 use borrow.Author.Tests.{eq-eqb, ne-eqb}
-use Rattle.window.proofs.Window.{length-floats, getD-floats, no-values, some-values}
+use Rattle.ieee.proofs.Floats.{length-floats, getD-floats}
+use Rattle.window.proofs.Window.{no-values, some-values}
 use Rattle.change_rollups.specs.Delta.{ideltaOf}
 use Rattle.change_rollups.proofs.delta.rollup_idelta.Statement.{statement}
 use Rattle.change_rollups.proofs.delta.rollup_idelta.Tie as tie

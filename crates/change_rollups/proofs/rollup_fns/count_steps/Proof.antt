@@ -8,7 +8,8 @@ use Prim.Native.Nat.{ℕ, _-_, _≤_}
 use lib.ListN.{length}
 use borrow.Author.Needs.{needs}
 use borrow.Author.Tests.{not-true, not-false}
-use Rattle.window.specs.Window.{floats, foldFrom, countF}
+use Rattle.ieee.specs.Patterns.{floats}
+use Rattle.window.specs.Window.{foldFrom, countF}
 use Rattle.window.proofs.Folds.{Folded, start, turn, done-values, value}
 use Rattle.change_rollups.specs.RollupFns.{tally, stepsFrom}
 use Rattle.change_rollups.proofs.rollup_fns.count_steps.Statement.{statement}

@@ -8,8 +8,10 @@ use Prim.Native.Nat.{ℕ, _+_}
 use lib.Ieee.{Float, isNan}
 use lib.ListN.{length, drop}
 use borrow.Author.Needs.{needs}
-use Rattle.window.specs.Window.{countF, firstOf, floats}
-use Rattle.window.proofs.Window.{no-values, some-values, rest-values, not-neither}
+use Rattle.ieee.specs.Patterns.{floats}
+use Rattle.window.specs.Window.{countF, firstOf}
+use Rattle.ieee.proofs.Floats.{rest-values}
+use Rattle.window.proofs.Window.{no-values, some-values, not-neither}
 use Rattle.change_rollups.specs.RollupFns.{changesFrom, changesOf}
 use Rattle.change_rollups.proofs.rollup_fns.rollup_changes.Statement.{statement}
 use Rattle.change_rollups.proofs.rollup_fns.rollup_changes.Tie as tie

@@ -1,7 +1,8 @@
 -- `change_rollups::rollup_fns::rollup_changes_prometheus` meets its contract: the first value is compared with the others.
 -- Assumes nothing.
 use borrow.Author.Needs.{needs}
-use Rattle.window.proofs.Window.{no-values, some-values, rest-values}
+use Rattle.ieee.proofs.Floats.{rest-values}
+use Rattle.window.proofs.Window.{no-values, some-values}
 use Rattle.change_rollups.specs.RollupFns.{changesPrometheusOf}
 use Rattle.change_rollups.proofs.rollup_fns.rollup_changes_prometheus.Statement.{statement}
 use Rattle.change_rollups.proofs.rollup_fns.rollup_changes_prometheus.Tie as tie

@@ -6,7 +6,8 @@ use lib.Ieee.{Float}
 use Prim.Native.Nat.{_-_}
 use lib.ListN.{length}
 use borrow.Author.Needs.{needs}
-use Rattle.window.specs.Window.{floats, foldFrom, zeroF}
+use Rattle.ieee.specs.Patterns.{floats}
+use Rattle.window.specs.Window.{foldFrom, zeroF}
 use Rattle.window.proofs.Folds.{Folded, start, turn, done-values, value}
 use Rattle.change_rollups.specs.RollupFns.{slide, slideFrom}
 use Rattle.change_rollups.proofs.rollup_fns.slide_over.Statement.{statement}

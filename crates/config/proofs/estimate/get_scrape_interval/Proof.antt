@@ -25,6 +25,7 @@ use Rattle.config.proofs.estimate.get_scrape_interval.Statement.{statem
 use Rattle.config.proofs.estimate.get_scrape_interval.Tie as tie
 
 floats-of : (ds : List ℤ) → floats (map intervalBits ds) ≡ map (ofInt binary64) ds
+unfolding floats
 floats-of [] = refl
 floats-of (d ∷ ds) = rw (ofBits-toBits binary64 (ofInt binary64 d) (ofInt-fits binary64 d), floats-of ds)
 

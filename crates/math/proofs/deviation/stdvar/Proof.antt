@@ -21,18 +21,18 @@ abbrev start : Spread
 start = record { count = 0; avg = ofBits binary64 0; q = ofBits binary64 0 }
 
 none : (vs : List ℕ) → length vs ≡ 0 → stdvarOf (floats vs) ≡ nan
-unfolding stdvarOf
+unfolding floats stdvarOf
 none [] h = refl
 none (b ∷ bs) h = absurd (omega arith)
 
 one : (vs : List ℕ) → length vs ≡ 1 → stdvarOf (floats vs) ≡ ofBits binary64 0
-unfolding stdvarOf
+unfolding floats stdvarOf
 one [] h = absurd (omega arith)
 one (b ∷ []) h = refl
 one (b ∷ d ∷ bs) h = absurd (omega arith)
 
 more : (vs : List ℕ) → (length vs ≡ 0 → ⊥) → (length vs ≡ 1 → ⊥) → stdvarOf (floats vs) ≡ variance (foldl spreadStep start (floats vs))
-unfolding stdvarOf
+unfolding floats stdvarOf
 more [] p q = absurd (p refl)
 more (b ∷ []) p q = absurd (q refl)
 more (b ∷ d ∷ bs) p q = refl

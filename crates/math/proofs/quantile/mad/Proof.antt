@@ -14,6 +14,7 @@ use Rattle.math.proofs.quantile.mad.Statement.{statement}
 use Rattle.math.proofs.quantile.mad.Tie as tie
 
 deviations-length : (m : Float) (vs : List ℕ) → length (deviations m (floats vs)) ≡ length vs
+unfolding floats
 deviations-length m vs = length-map (floats vs) _ ∙ length-map vs _
 
 quantile-first-requires : tie.Need-quantile-first-requires

@@ -9,6 +9,7 @@ use Rattle.math.proofs.quantile.quantile.Statement.{statement}
 use Rattle.math.proofs.quantile.quantile.Tie as tie
 
 quantile-first-requires : tie.Need-quantile-first-requires
+unfolding floats
 quantile-first-requires c κs =
     let at = c .before .before .before in
     let s = at .before .before .before .before in
@@ -16,6 +17,7 @@ quantile-first-requires c κs =
     kept-ready (floats vs) (s .args .work .now) (at .keep .last .1 .0) (at .keep .result) (length vs) (length-map vs _) (at .keep .ensures .0) (at .keep .ensures .1) (s .pre) (at .keep .kept .1 .0)
 
 returns : tie.Need-returns
+unfolding floats
 returns c =
     let first = c .before .before .quantile-first in
     let at = c .before .before .before .before .before .before in

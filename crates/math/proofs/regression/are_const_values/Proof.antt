@@ -11,18 +11,18 @@ use lib.ListN.{length, drop, getD}
 use lib.Ieee.{Float, eq, ne, binary64, ofBits}
 use Rattle.ieee.specs.Patterns.{floats}
 use Rattle.math.specs.Regression.{constAfter, areConst}
-use Rattle.ieee.proofs.Folding.{floats-cons, floats-none}
+use Rattle.ieee.proofs.Floats.{floats-cons, floats-none}
 use Rattle.math.proofs.regression.are_const_values.Statement.{statement}
 use Rattle.math.proofs.regression.are_const_values.Tie as tie
 
 few : (vs : List ℕ) → length vs ≤ 1 → areConst (floats vs) ≡ true
-unfolding areConst
+unfolding floats areConst
 few [] h = refl
 few (b ∷ []) h = refl
 few (b ∷ d ∷ bs) h = absurd (omega arith)
 
 opened : (vs : List ℕ) → 0 < length vs → constAfter (ofBits binary64 (getD vs 0 0)) (floats (drop 1 vs)) ≡ areConst (floats vs)
-unfolding areConst
+unfolding floats areConst
 opened [] h = absurd (omega arith)
 opened (b ∷ bs) h = refl
 

@@ -17,17 +17,17 @@ use Rattle.math.proofs.regression.linear_regression.Statement.{statemen
 use Rattle.math.proofs.regression.linear_regression.Tie as tie
 
 none : (vs : List ℕ) (ts : List ℤ) (t : ℤ) → length vs ≡ 0 → regressionOf (floats vs) ts t ≡ record { v = nan; k = nan }
-unfolding regressionOf
+unfolding floats regressionOf
 none [] ts t h = refl
 none (b ∷ bs) ts t h = absurd (omega arith)
 
 const : (vs : List ℕ) (ts : List ℤ) (t : ℤ) → (length vs ≡ 0 → ⊥) → areConst (floats vs) ≡ true → regressionOf (floats vs) ts t ≡ record { v = ofBits binary64 (getD vs 0 0); k = ofBits binary64 0 }
-unfolding regressionOf
+unfolding floats regressionOf
 const [] ts t some e = absurd (some refl)
 const (b ∷ bs) ts t some e = rw e
 
 sloped : (vs : List ℕ) (ts : List ℤ) (t : ℤ) → (length vs ≡ 0 → ⊥) → areConst (floats vs) ≡ false → regressionOf (floats vs) ts t ≡ lineOf (sumsFrom t noSums ts (floats vs)) (ofInt binary64 (pos (length vs)))
-unfolding regressionOf
+unfolding floats regressionOf
 sloped [] ts t some e = absurd (some refl)
 sloped (b ∷ bs) ts t some e = rw (e, length-map bs (ofBits binary64))
 

@@ -15,7 +15,7 @@ use lib.Ieee.{binary64, ofBits}
 use Rattle.ieee.specs.Patterns.{floats}
 use Rattle.math.specs.declared.regression.Sums.{Sums}
 use Rattle.math.specs.Regression.{noSums, secondsFrom, sumsFrom, sumsWith}
-use Rattle.ieee.proofs.Folding.{floats-cons, floats-none}
+use Rattle.ieee.proofs.Floats.{floats-cons, floats-none}
 use Rattle.math.proofs.regression.sum_up.Statement.{statement}
 use Rattle.math.proofs.regression.sum_up.Tie as tie
 

@@ -23,7 +23,7 @@ abbrev μ-loop : tie.MeasureT-loop
 μ-loop values prepared₀ prev-delta₀ prev-value₀ j₀ prepared prev-delta prev-value j = length values - j
 
 returns : tie.Need-returns Inv-loop μ-loop
-unfolding deltas
+unfolding floats deltas
 returns c =
     let args = c .before .before .before .args in
     rw (drop-of-length-le (args .values .now) {i = 0} (omega arith), drop-of-length-le (args .prepared .now) {i = 0} (omega arith))
@@ -32,7 +32,7 @@ read-requires : tie.Need-read-requires Inv-loop μ-loop
 read-requires c κs = (c .before .before .before .pre .1, search needs)
 
 loop-holds : tie.Need-loop-holds Inv-loop μ-loop
-unfolding deltas ofBits isNan
+unfolding floats deltas ofBits isNan
 loop-holds c =
     let start = c .before .before .before .before in
     (search needs, c .read .ensures .1, refl, record { size = start .pre .0; parts = rw (c .read .ensures .0, first-left (start .args .values .now) 0 0 (omega arith)) })
@@ -48,7 +48,7 @@ number-bits-requires : tie.Need-number-bits-requires Inv-loop μ-loop
 number-bits-requires c κs = difference c
 
 loop-again : tie.Need-loop-again Inv-loop μ-loop
-unfolding deltasFrom
+unfolding floats deltasFrom
 loop-again c =
     let at-loop = c .before .before .before in
     let left = first-left (at-loop .before .before .before .before .before .args .values .now) (at-loop .loop .j + 1) 0 (omega arith) in
@@ -58,7 +58,7 @@ number-bits-requires-2 : tie.Need-number-bits-requires-2 Inv-loop μ-loop
 number-bits-requires-2 c κs = c .before .loop .inv .2
 
 returns-2 : tie.Need-returns-2 Inv-loop μ-loop
-unfolding deltasFrom
+unfolding floats deltasFrom
 returns-2 c =
     let at-loop = c .before .before in
     let none = drop-of-length-le (at-loop .before .before .before .before .before .args .values .now) {i = at-loop .loop .j + 1} (omega arith) in

@@ -38,7 +38,7 @@ returns c =
     rw (drop-of-length-le (args .timestamps .now) {i = 0} (omega arith), drop-of-length-le (args .prepared .now) {i = 0} (omega arith))
 
 loop-holds : tie.Need-loop-holds Inv-loop μ-loop
-unfolding derivs
+unfolding floats derivs
 loop-holds c =
     let start = c .before .before .before .before .before in
     let ts = start .args .timestamps .now in
@@ -57,7 +57,7 @@ next-requires c κs =
     (at-loop .loop .inv .1, rw (toZ-ofZ (within-fits tt u)) u)
 
 loop-again : tie.Need-loop-again Inv-loop μ-loop
-unfolding derivsFrom
+unfolding floats derivsFrom
 loop-again c =
     let at-loop = c .before .before .before .before .before in
     let start = at-loop .before .before .before .before .before .before in

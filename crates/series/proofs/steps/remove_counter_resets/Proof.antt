@@ -24,14 +24,14 @@ unfolding div neg ofBits
 loop-holds c = record { size = c .before .before .pre .0; parts = refl }
 
 loop-again : tie.Need-loop-again Inv-loop μ-loop
-unfolding resetsFrom
+unfolding floats resetsFrom
 loop-again c =
     let at-loop = c .before .before .before .before in
     let left = first-left (at-loop .before .before .before .args .values .now) (at-loop .loop .i) 0 (omega arith) in
     turn (omega arith) (rw (left, ← c .before .before .read .ensures .0, ← c .before .next .ensures) at (at-loop .loop .inv)) (c .bits-of .ensures)
 
 returns : tie.Need-returns Inv-loop μ-loop
-unfolding resetsFrom
+unfolding floats resetsFrom
 returns c =
     let at-loop = c .before in
     done (omega arith) (rw (drop-of-length-le (at-loop .before .before .before .args .values .now) {i = at-loop .loop .i} (omega arith)) at (at-loop .loop .inv))

@@ -2,8 +2,9 @@
 -- Assumes nothing.
 use mathlib.Core.Path.{_∙_, sym}
 use borrow.Author.Needs.{needs}
-use Rattle.window.specs.Window.{floats}
-use Rattle.window.proofs.Window.{length-floats, last-none, last-any}
+use Rattle.ieee.specs.Patterns.{floats}
+use Rattle.ieee.proofs.Floats.{length-floats}
+use Rattle.window.proofs.Window.{last-none, last-any}
 use Rattle.time_rollups.specs.Candlestick.{closeOf}
 use Rattle.time_rollups.proofs.Candles.{candle-values}
 use Rattle.time_rollups.proofs.candlestick.rollup_close.Statement.{statement}

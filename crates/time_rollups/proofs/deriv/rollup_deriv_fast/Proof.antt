@@ -3,7 +3,8 @@
 use borrow.Author.Needs.{needs}
 use borrow.Author.Tests.{lt-ltb, le-ltb}
 use Rattle.times.proofs.Milli.{read-back}
-use Rattle.window.proofs.Window.{length-floats, no-values, some-values}
+use Rattle.ieee.proofs.Floats.{length-floats}
+use Rattle.window.proofs.Window.{no-values, some-values}
 use Rattle.window.proofs.Times.{back, first-ranged}
 use Rattle.time_rollups.specs.Deriv.{derivFastOf}
 use Rattle.time_rollups.proofs.deriv.rollup_deriv_fast.Statement.{statement}

@@ -2,7 +2,7 @@
 -- Assumes nothing.
 use mathlib.Core.Path.{ap}
 use Rattle.math.specs.declared.regression.Line.{Line}
-use Rattle.window.specs.Window.{floats}
+use Rattle.ieee.specs.Patterns.{floats}
 use Rattle.window.proofs.Times.{back, fits-after}
 use Rattle.time_rollups.specs.Deriv.{derivSlowOf}
 use Rattle.time_rollups.proofs.deriv.rollup_deriv_slow.Statement.{statement}
@@ -12,7 +12,7 @@ linear-regression-requires : tie.Need-linear-regression-requires
 linear-regression-requires c κs = fits-after (c .before .before .args .rfa) (c .before .before .args .timestamps .now) (c .before .before .pre)
 
 returns : tie.Need-returns
-unfolding floats derivSlowOf
+unfolding derivSlowOf
 returns c =
     let s = c .before .before .before in
     ap (λ (line : Line). line .k) (rw (back (s .args .rfa .«curr_timestamp») (s .pre .0 .curr)) at (c .linear-regression .ensures))

@@ -9,7 +9,8 @@ use lib.Ieee.{nan}
 use borrow.Author.Tests.{lt-ltb, le-ltb}
 use Rattle.times.proofs.Milli.{read-back}
 use Rattle.window.proofs.Searches.{up-to-within}
-use Rattle.window.proofs.Window.{length-floats, getD-floats, no-values, some-values, zero-eqb, pos-eqb}
+use Rattle.ieee.proofs.Floats.{length-floats, getD-floats}
+use Rattle.window.proofs.Window.{no-values, some-values, zero-eqb, pos-eqb}
 use Rattle.window.proofs.Times.{back}
 use Rattle.time_rollups.specs.Deriv.{earlier, iderivOf}
 use Rattle.time_rollups.proofs.deriv.rollup_ideriv.Statement.{statement}

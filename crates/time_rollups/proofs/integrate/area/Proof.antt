@@ -10,7 +10,8 @@ use mir.Syntax.{w64}
 use mir.Val.{toZ}
 use mir.Facts.{toZ-ofZ}
 use Rattle.times.proofs.Milli.{read-back}
-use Rattle.window.specs.Window.{floats, readings, foldFrom, zeroF}
+use Rattle.ieee.specs.Patterns.{floats}
+use Rattle.window.specs.Window.{readings, foldFrom, zeroF}
 use Rattle.window.proofs.Folds.{Folded, start, turn, reading, done-readings}
 use Rattle.time_rollups.specs.Integrate.{areaAt, areaFrom, extend}
 use Rattle.time_rollups.proofs.integrate.area.Statement.{statement}

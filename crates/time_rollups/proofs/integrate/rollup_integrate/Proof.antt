@@ -10,7 +10,8 @@ use mir.Facts.{toZ-ofZ}
 use Rattle.times.proofs.Milli.{natAbs-sub, read-back}
 use Rattle.window.specs.Window.{firstOr}
 use Rattle.window.specs.Types.{InRange}
-use Rattle.window.proofs.Window.{no-values, some-values, rest-values}
+use Rattle.ieee.proofs.Floats.{rest-values}
+use Rattle.window.proofs.Window.{no-values, some-values}
 use Rattle.window.proofs.Times.{back, difference-fits, first-ranged}
 use Rattle.time_rollups.specs.Integrate.{integrateOf}
 use Rattle.time_rollups.proofs.integrate.rollup_integrate.Statement.{statement}

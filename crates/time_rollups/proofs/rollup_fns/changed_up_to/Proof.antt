@@ -6,9 +6,9 @@ use native.Mathlib.Omega.{arith}
 use Prim.Native.Nat.{_-_, _≤_}
 use lib.ListN.{length}
 use lib.Seq.{length-take-le}
-use Rattle.window.specs.Window.{floats}
+use Rattle.ieee.specs.Patterns.{floats}
 use Rattle.window.proofs.Searches.{up-to-within}
-use Rattle.window.proofs.Window.{length-floats, take-values}
+use Rattle.ieee.proofs.Floats.{length-floats, take-values}
 use Rattle.time_rollups.proofs.rollup_fns.changed_up_to.Statement.{statement}
 use Rattle.time_rollups.proofs.rollup_fns.changed_up_to.Tie as tie
 

@@ -5,9 +5,9 @@ use native.Mathlib.Omega.{arith}
 use Prim.Native.Nat.{_-_, _≤_, _<_}
 use lib.ListN.{length}
 use lib.Ieee.{Float, nan, ne}
-use Rattle.window.specs.Window.{floats}
+use Rattle.ieee.specs.Patterns.{floats}
 use Rattle.window.proofs.Searches.{Undecided, search-starts, search-finds, search-goes-on, search-ends}
-use Rattle.window.proofs.Window.{length-floats, getD-floats}
+use Rattle.ieee.proofs.Floats.{length-floats, getD-floats}
 use Rattle.time_rollups.proofs.rollup_fns.differing_up_to.Statement.{statement}
 use Rattle.time_rollups.proofs.rollup_fns.differing_up_to.Tie as tie
 

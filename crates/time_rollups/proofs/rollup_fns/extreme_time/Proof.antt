@@ -10,7 +10,8 @@ use mir.Val.{toZ}
 use borrow.Author.Needs.{needs}
 use lib.Ieee.{Float}
 use Rattle.times.proofs.Milli.{read-back}
-use Rattle.window.specs.Window.{floats, readings, foldFrom, firstOf, firstOr, secondsF}
+use Rattle.ieee.specs.Patterns.{floats}
+use Rattle.window.specs.Window.{readings, foldFrom, firstOf, firstOr, secondsF}
 use Rattle.window.proofs.Window.{no-values, some-values}
 use Rattle.window.proofs.Folds.{Folded, start, turn, reading, done-readings}
 use Rattle.time_rollups.specs.RollupFns.{latest, extremeTime}

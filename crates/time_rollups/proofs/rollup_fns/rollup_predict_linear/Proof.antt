@@ -1,7 +1,7 @@
 -- `time_rollups::rollup_fns::rollup_predict_linear` meets its contract: `predict` is handed the line that math gives.
 -- Assumes nothing.
 use borrow.Author.Needs.{needs}
-use Rattle.window.specs.Window.{floats}
+use Rattle.ieee.specs.Patterns.{floats}
 use Rattle.window.proofs.Times.{back, fits-after}
 use Rattle.time_rollups.specs.RollupFns.{predictLinearOf}
 use Rattle.time_rollups.proofs.rollup_fns.rollup_predict_linear.Statement.{statement}
@@ -11,7 +11,7 @@ linear-regression-requires : tie.Need-linear-regression-requires
 linear-regression-requires c κs = fits-after (c .before .before .args .rfa) (c .before .before .args .timestamps .now) (c .before .before .pre)
 
 returns : tie.Need-returns
-unfolding floats predictLinearOf
+unfolding predictLinearOf
 returns c =
     let s = c .before .before .before .before in
     let e = rw (back (s .args .rfa .«curr_timestamp») (s .pre .0 .curr)) at (c .before .linear-regression .ensures) in

@@ -1,7 +1,8 @@
 -- `value_rollups::holt_winters::rollup_holt_winters` meets its contract: each test is one of the definition.
 -- Assumes nothing.
 use borrow.Author.Needs.{needs}
-use Rattle.window.proofs.Window.{no-values, some-values, rest-values}
+use Rattle.ieee.proofs.Floats.{rest-values}
+use Rattle.window.proofs.Window.{no-values, some-values}
 use Rattle.value_rollups.specs.HoltWinters.{holtWintersOf}
 use Rattle.value_rollups.proofs.holt_winters.rollup_holt_winters.Statement.{statement}
 use Rattle.value_rollups.proofs.holt_winters.rollup_holt_winters.Tie as tie

@@ -5,7 +5,8 @@ use Prim.Native.Nat.{_-_}
 use lib.ListN.{length}
 use borrow.Author.Needs.{needs}
 use lib.Ieee.{Float, binary64, sub}
-use Rattle.window.specs.Window.{floats, foldFrom, firstOf}
+use Rattle.ieee.specs.Patterns.{floats}
+use Rattle.window.specs.Window.{foldFrom, firstOf}
 use Rattle.window.proofs.Window.{no-values, some-values}
 use Rattle.window.proofs.Folds.{Folded, start, turn, done-values, value}
 use Rattle.value_rollups.specs.HoltWinters.{smooth, smoothFrom}

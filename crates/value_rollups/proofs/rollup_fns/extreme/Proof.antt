@@ -4,7 +4,8 @@ use mathlib.Core.Logic.{⊎-elim}
 use Prim.Native.Nat.{_-_}
 use lib.ListN.{length}
 use borrow.Author.Needs.{needs}
-use Rattle.window.specs.Window.{floats, foldFrom, further}
+use Rattle.ieee.specs.Patterns.{floats}
+use Rattle.window.specs.Window.{foldFrom, further}
 use Rattle.window.proofs.Folds.{Folded, start, turn, done-values, value}
 use Rattle.value_rollups.proofs.rollup_fns.extreme.Statement.{statement}
 use Rattle.value_rollups.proofs.rollup_fns.extreme.Tie as tie

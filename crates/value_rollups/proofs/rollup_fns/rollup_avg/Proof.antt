@@ -1,7 +1,8 @@
 -- `value_rollups::rollup_fns::rollup_avg` meets its contract: it divides what `total` gives by the count.
 -- Assumes nothing.
 use borrow.Author.Needs.{needs}
-use Rattle.window.proofs.Window.{no-values, some-values, length-floats}
+use Rattle.ieee.proofs.Floats.{length-floats}
+use Rattle.window.proofs.Window.{no-values, some-values}
 use Rattle.value_rollups.specs.RollupFns.{avgOf}
 use Rattle.value_rollups.proofs.rollup_fns.rollup_avg.Statement.{statement}
 use Rattle.value_rollups.proofs.rollup_fns.rollup_avg.Tie as tie

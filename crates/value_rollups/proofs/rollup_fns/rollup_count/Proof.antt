@@ -1,7 +1,8 @@
 -- `value_rollups::rollup_fns::rollup_count` meets its contract: the values are as many as their patterns.
 -- Assumes nothing.
 use borrow.Author.Needs.{needs}
-use Rattle.window.proofs.Window.{no-values, some-values, length-floats}
+use Rattle.ieee.proofs.Floats.{length-floats}
+use Rattle.window.proofs.Window.{no-values, some-values}
 use Rattle.value_rollups.specs.RollupFns.{countOf}
 use Rattle.value_rollups.proofs.rollup_fns.rollup_count.Statement.{statement}
 use Rattle.value_rollups.proofs.rollup_fns.rollup_count.Tie as tie

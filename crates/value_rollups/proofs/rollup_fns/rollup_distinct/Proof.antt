@@ -4,7 +4,8 @@ use mathlib.Core.Path.{_∙_, ap}
 use borrow.Author.Needs.{needs}
 use native.Mathlib.Omega.{arith}
 use lib.ListN.{length-take}
-use Rattle.window.specs.Window.{floats, countF}
+use Rattle.ieee.specs.Patterns.{floats}
+use Rattle.window.specs.Window.{countF}
 use Rattle.window.proofs.Window.{no-values, some-values}
 use Rattle.value_rollups.specs.RollupFns.{distinctFrom, distinctOf}
 use Rattle.value_rollups.proofs.rollup_fns.rollup_distinct.Statement.{statement}
@@ -21,7 +22,7 @@ count-distinct-requires : tie.Need-count-distinct-requires
 count-distinct-requires c κs = simp length-take (omega (arith, c .before .before .before .sort-values .kept .1 .0))
 
 returns-2 : tie.Need-returns-2
-unfolding floats distinctOf
+unfolding distinctOf
 returns-2 c =
     rw (some-values _ (c .before .before .before .before .before .before .before .if1 .left))
     (c .of-count .ensures ∙ ap countF (c .before .count-distinct .ensures ∙ ap distinctFrom (c .before .before .before .before .before .sort-values .ensures .0)))

@@ -6,7 +6,8 @@ use lib.ListN.{length, drop}
 use borrow.Author.Needs.{needs}
 use lib.Ieee.{lt}
 use borrow.Author.Tests.{not-true, not-false}
-use Rattle.window.specs.Window.{floats, foldFrom, firstOf}
+use Rattle.ieee.specs.Patterns.{floats}
+use Rattle.window.specs.Window.{foldFrom, firstOf}
 use Rattle.window.proofs.Window.{no-values, some-values}
 use Rattle.window.proofs.Folds.{Folded, start, turn, done-values, value}
 use Rattle.value_rollups.specs.RollupFns.{noLesser, maxOf}

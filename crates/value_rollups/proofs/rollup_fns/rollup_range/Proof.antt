@@ -7,7 +7,8 @@ use Prim.Native.Nat.{_-_}
 use lib.ListN.{length}
 use borrow.Author.Needs.{needs}
 use lib.Ieee.{binary64, sub}
-use Rattle.window.specs.Window.{firstOf, floats, foldFrom, further}
+use Rattle.ieee.specs.Patterns.{floats}
+use Rattle.window.specs.Window.{firstOf, foldFrom, further}
 use Rattle.window.proofs.Folds.{Folded, start, turn, done-values, value}
 use Rattle.window.proofs.Window.{no-values, some-values}
 use Rattle.value_rollups.specs.RollupFns.{rangeOf}

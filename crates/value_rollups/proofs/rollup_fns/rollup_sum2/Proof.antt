@@ -3,7 +3,8 @@
 use Prim.Native.Nat.{_-_}
 use lib.ListN.{length}
 use borrow.Author.Needs.{needs}
-use Rattle.window.specs.Window.{floats, foldFrom, zeroF}
+use Rattle.ieee.specs.Patterns.{floats}
+use Rattle.window.specs.Window.{foldFrom, zeroF}
 use Rattle.window.proofs.Window.{no-values, some-values}
 use Rattle.window.proofs.Folds.{Folded, start, turn, done-values, value}
 use Rattle.value_rollups.specs.RollupFns.{addSquare, sum2Of}

@@ -4,7 +4,7 @@ use Prim.Native.Nat.{_-_}
 use lib.ListN.{length}
 use borrow.Author.Needs.{needs}
 use lib.Ieee.{binary64, add}
-use Rattle.window.specs.Window.{floats}
+use Rattle.ieee.specs.Patterns.{floats}
 use Rattle.window.proofs.Folds.{Folded, start, turn, done-values, value}
 use Rattle.value_rollups.specs.RollupFns.{totalOf}
 use Rattle.value_rollups.proofs.rollup_fns.total.Statement.{statement}

@@ -2,7 +2,8 @@
 -- Assumes nothing.
 use mathlib.Core.Path.{_∙_, sym}
 use borrow.Author.Needs.{needs}
-use Rattle.window.proofs.Window.{length-floats, first-none, first-value}
+use Rattle.ieee.proofs.Floats.{length-floats}
+use Rattle.window.proofs.Window.{first-none, first-value}
 use Rattle.window.proofs.types.first.Statement.{statement}
 use Rattle.window.proofs.types.first.Tie as tie
 

@@ -2,7 +2,8 @@
 -- Assumes nothing.
 use mathlib.Core.Path.{_∙_, sym}
 use borrow.Author.Needs.{needs}
-use Rattle.window.proofs.Window.{length-floats, last-none, last-value}
+use Rattle.ieee.proofs.Floats.{length-floats}
+use Rattle.window.proofs.Window.{last-none, last-value}
 use Rattle.window.proofs.types.last.Statement.{statement}
 use Rattle.window.proofs.types.last.Tie as tie
 
