@@ -1,13 +1,13 @@
 -- The rollups of rollup_fns.rs that go from value to value, each as the Rust's operations in source order. `p` is the
 -- predecessor's value, NaN where there is none, and `xs` the window's values.
 -- Assumes nothing.
-use mathlib.Core.List.{List}
+use mathlib.Core.List.{List, foldl}
 use mathlib.Core.Bool.{Bool, true, false, cond, not, _&&_}
 use Prim.Native.Nat.{ℕ, _+_}
 use lib.ListN.{drop}
 use lib.Ieee.{Float, nan, binary64, add, sub, mul, lt, ne, isNan, ofBits}
 use Rattle.ieee.specs.Value.{absOf}
-use Rattle.window.specs.Window.{isEmpty, firstOf, lastOf, foldFrom, seeded, beyond, zeroF, countF}
+use Rattle.window.specs.Window.{isEmpty, firstOf, lastOf, seeded, beyond, zeroF, countF}
 
 -- the last value less the predecessor, which is 0.0 where there is none
 unfoldable pub increasePureOf : Float → List Float → Float
@@ -27,7 +27,7 @@ change s v = cond (isChange (s .0) v) (v, s .1 + 1) s
 
 -- the changes from p on
 unfoldable pub changesFrom : Float → List Float → ℕ
-changesFrom p xs = foldFrom change (p, 0) xs .1
+changesFrom p xs = foldl change (p, 0) xs .1
 
 -- a window's changes, without regard to the predecessor
 unfoldable pub changesPrometheusOf : List Float → Float
@@ -43,7 +43,7 @@ tally down s v = cond (beyond down (s .0) v) (cond (belowTolerance v (s .0)) s (
 
 -- the steps from p on
 unfoldable pub stepsFrom : Bool → Float → List Float → Float
-stepsFrom down p xs = countF (foldFrom (tally down) (p, 0) xs .1)
+stepsFrom down p xs = countF (foldl (tally down) (p, 0) xs .1)
 
 -- from the predecessor, or else from the first value
 unfoldable pub stepsOf : Bool → Float → List Float → Float
@@ -67,7 +67,7 @@ slide down s v = (v, cond (lt zeroF (gap down (s .0) v)) (add binary64 (s .1) (g
 
 -- the sum from p on
 unfoldable pub slideFrom : Bool → Float → List Float → Float
-slideFrom down p xs = foldFrom (slide down) (p, zeroF) xs .1
+slideFrom down p xs = foldl (slide down) (p, zeroF) xs .1
 
 -- from the predecessor, or else from the first value
 unfoldable pub slideOf : Bool → Float → List Float → Float

@@ -20,7 +20,7 @@ use Rattle.value_rollups.specs.RollupFns.{maxOf, minOf}
 use Rattle.change_rollups.specs.RollupFns.{changesFrom, changesPrometheusOf}
 use Rattle.time_rollups.specs.RollupFns.{lagOf}
 use Rattle.ieee.specs.Patterns.{floats}
-use Rattle.window.specs.Window.{firstOr, foldFrom, isEmpty, lastOr, upToLast}
+use Rattle.window.specs.Window.{firstOr, isEmpty, lastOr, upToLast}
 use Rattle.config.specs.Estimate.{distances, distancesFrom, estimateOf}
 use Rattle.config.specs.Reach.{reachOf}
 use Rattle.run.specs.Figures.{scans}
@@ -28,5 +28,5 @@ use Rattle.run.specs.Record.{lastOf}
 use Rattle.claims.specs.Table.{Case, fromSecond, table}
 
 pub table-holds : map (λ (x : Case). x .computed) table ≡ map (λ (x : Case). x .stated) table
-unfolding add div eq isNan le lt mul ne neg ofBits ofInt sub toBits toSigned toUnsigned sqrtOf absOf floorOf stdvarOf modeOf quantileOf sortBy kept filter zipWith counterAfter deltas deltasFrom derivs derivsFrom grown intervalsFrom lifted preparedOf resetsFrom sloped candlestick closeOf firstCandle deltaFrom deltaOf firstStep startsLow holtWintersOf outOfRange smoothFrom changesFrom changesPrometheusOf lagOf maxOf minOf firstOr floats foldFrom isEmpty lastOr upToLast distances distancesFrom estimateOf reachOf scans lastOf fromSecond evalOf
+unfolding add div eq isNan le lt mul ne neg ofBits ofInt sub toBits toSigned toUnsigned sqrtOf absOf floorOf stdvarOf modeOf quantileOf sortBy kept filter zipWith counterAfter deltas deltasFrom derivs derivsFrom grown intervalsFrom lifted preparedOf resetsFrom sloped candlestick closeOf firstCandle deltaFrom deltaOf firstStep startsLow holtWintersOf outOfRange smoothFrom changesFrom changesPrometheusOf lagOf maxOf minOf firstOr floats isEmpty lastOr upToLast distances distancesFrom estimateOf reachOf scans lastOf fromSecond evalOf
 table-holds = refl

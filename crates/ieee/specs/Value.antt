@@ -1,10 +1,10 @@
--- What Rust's f64 has as methods: `abs`, `floor` and the order of `total_cmp`, on the values of `lib.Ieee`.
+-- What Rust's f64 has as methods, on the values of `lib.Ieee`: `abs`, `floor` and the order of `total_cmp`; and milliseconds as seconds.
 -- A value is NaN, an infinity, or `fin s m e`: m * 2 ^ e, negative where s is true.
 use Prim.Native.Nat.{ℕ, _*_, _/_, _%_}
 use mathlib.Core.Bool.{Bool, true, false, not, _&&_, _||_, cond}
 use lib.Dec.{eqb}
-use lib.IntN.{pos, negsuc}
-use lib.Ieee.{Float, nan, inf, fin, binary64, up, down, ofInt, lt, eq, isNan}
+use lib.IntN.{ℤ, pos, negsuc}
+use lib.Ieee.{Float, nan, inf, fin, binary64, up, down, ofInt, ofBits, div, lt, eq, isNan}
 
 -- the sign taken off, of −0.0 too; NaN stays NaN
 unfoldable pub absOf : Float → Float
@@ -35,3 +35,7 @@ negative (fin s m e) = s
 unfoldable pub totalLt : Float → Float → Bool
 unfolding lt eq isNan
 totalLt x y = lt x y || eq x y && (negative x && not (negative y)) || not (isNan x) && isNan y
+
+-- milliseconds as seconds: ms / 1000.0
+abbrev pub secondsOf : ℤ → Float
+secondsOf ms = div binary64 (ofInt binary64 ms) (ofBits binary64 0x408F_4000_0000_0000)

@@ -5,7 +5,7 @@ use Prim.Native.Nat.{ℕ}
 use lib.IntN.{ℤ, pos, _-ℤ_}
 use lib.ListN.{length}
 use lib.Ieee.{Float, nan, binary64, add, sub, mul, div, eq, le, ofBits, ofInt}
-use Rattle.ieee.specs.Value.{absOf}
+use Rattle.ieee.specs.Value.{absOf, secondsOf}
 use Rattle.math.specs.declared.regression.Line.{Line}
 use Rattle.math.specs.declared.regression.Sums.{Sums}
 
@@ -22,7 +22,7 @@ areConst (x ∷ xs) = constAfter x xs
 
 -- the seconds from the intercept time to t
 abbrev pub secondsFrom : ℤ → ℤ → Float
-secondsFrom intercept t = div binary64 (ofInt binary64 (t -ℤ intercept)) (ofBits binary64 0x408F400000000000)
+secondsFrom intercept t = secondsOf (t -ℤ intercept)
 
 -- a reading's value v at dt seconds taken in
 abbrev pub sumsWith : Sums → Float → Float → Sums

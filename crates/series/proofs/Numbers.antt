@@ -16,7 +16,7 @@ use lib.Ieee.Order.{round-mono}
 use lib.Ieee.Exact.{HasValue}
 use Rattle.ieee.proofs.Exact.{count-exact}
 use Rattle.times.proofs.Order.{by-test}
-use Rattle.series.specs.Steps.{secondsOf}
+use Rattle.ieee.specs.Value.{secondsOf}
 
 -- ---- what `round` gives is a number, and whether it is finite does not turn on the sign
 

@@ -20,7 +20,8 @@ use Rattle.times.proofs.Order.{offset-of, offset-end}
 use Rattle.times.proofs.Milli.{within-sub}
 use Rattle.times.proofs.Order.{by-test, lt-le, lt-not-le, le-refl}
 use Rattle.ieee.specs.Patterns.{floats}
-use Rattle.series.specs.Steps.{plusZero, resetsFrom, deltasFrom, deltas, secondsOf, sloped, derivsFrom, derivs, wholeSeconds, intervalsFrom, secondTwice, preparedOf}
+use Rattle.ieee.specs.Value.{secondsOf}
+use Rattle.series.specs.Steps.{plusZero, resetsFrom, deltasFrom, deltas, sloped, derivsFrom, derivs, wholeSeconds, intervalsFrom, secondTwice, preparedOf}
 use Rattle.series.specs.declared.steps.Slope.{Slope}
 use Rattle.series.specs.declared.steps.PreFunction.{PreFunction}
 use Rattle.series.specs.declared.steps.PreFunction.the-variants.{None, Resets, Delta, Deriv, Intervals}

@@ -5,6 +5,7 @@ use mathlib.Core.Bool.{Bool, true, false}
 use lib.IntN.{ℤ, pos, _-ℤ_}
 use lib.Signed.{ltZ, quotZ}
 use lib.Ieee.{Float, nan, inf, binary64, ofBits, ofInt, add, sub, mul, div, neg, lt}
+use Rattle.ieee.specs.Value.{secondsOf}
 use Rattle.series.specs.declared.steps.PreFunction.{PreFunction}
 use Rattle.series.specs.declared.steps.PreFunction.the-variants.{None, Resets, Delta, Deriv, Intervals}
 use Rattle.series.specs.declared.steps.Counter.{Counter}
@@ -60,10 +61,6 @@ deltas [] = []
 deltas (v ∷ vs) = deltasFrom plusZero v vs
 
 -- ---- deriv: `deriv_values`
-
--- ms / 1000.0
-abbrev pub secondsOf : ℤ → Float
-secondsOf ms = div binary64 (ofInt binary64 ms) (ofBits binary64 0x408F_4000_0000_0000)
 
 -- the slope to the reading v at u, per second; where u is no later time, the last slope again, and the reading is passed over
 unfoldable pub sloped : Slope → Float → ℤ → Slope

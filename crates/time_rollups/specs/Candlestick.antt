@@ -1,6 +1,6 @@
 -- The rollups of candlestick.rs.
 -- Assumes nothing.
-use mathlib.Core.List.{List}
+use mathlib.Core.List.{List, foldl}
 use mathlib.Core.Bool.{Bool, true, false, cond}
 use Prim.Native.Nat.{_-_}
 use lib.ListN.{take}
@@ -8,7 +8,7 @@ use lib.IntN.{ℤ, _+ℤ_}
 use lib.Signed.{ltZ}
 use lib.Ieee.{Float, nan, isNan}
 use Rattle.window.specs.declared.types.RollupFuncArg.{RollupFuncArg}
-use Rattle.window.specs.Window.{firstOf, lastOr, foldFrom, upToLast, seeded, further}
+use Rattle.window.specs.Window.{firstOf, lastOr, upToLast, seeded, further}
 
 -- the values before the last reading whose time is below t, so that reading is left out too
 unfoldable pub candlestick : {A : Type 0} → ℤ → List ℤ → List A → List A
@@ -28,7 +28,7 @@ closeOf r xs ts = lastOr (firstCandle r) (candlestick (r .«curr_timestamp») ts
 
 -- the furthest of those values that way, from the predecessor or else from the first of them, replaced only by one beyond it
 unfoldable pub extremeCandle : Bool → RollupFuncArg → List Float → List ℤ → Float
-extremeCandle down r xs ts = seeded (foldFrom (further down)) (firstCandle r) (candlestick (r .«curr_timestamp») ts xs)
+extremeCandle down r xs ts = seeded (foldl (further down)) (firstCandle r) (candlestick (r .«curr_timestamp») ts xs)
 
 -- the greatest
 abbrev pub highOf : RollupFuncArg → List Float → List ℤ → Float

@@ -10,11 +10,12 @@ use lib.Signed.{ltZ}
 use lib.Ieee.{Float, nan, binary64, sub, div, isNan}
 use Rattle.math.specs.Regression.{regressionOf}
 use Rattle.window.specs.declared.types.RollupFuncArg.{RollupFuncArg}
-use Rattle.window.specs.Window.{isEmpty, firstOr, lastOr, firstOf, lastOf, upToLast, zeroF, secondsF}
+use Rattle.ieee.specs.Value.{secondsOf}
+use Rattle.window.specs.Window.{isEmpty, firstOr, lastOr, firstOf, lastOf, upToLast, zeroF}
 
 -- the change a second from the value v at the time t to the window's last reading
 unfoldable pub slopeFrom : Float → ℤ → List Float → List ℤ → Float
-slopeFrom v t xs ts = div binary64 (sub binary64 (lastOf xs) v) (secondsF (lastOr (pos 0) ts -ℤ t))
+slopeFrom v t xs ts = div binary64 (sub binary64 (lastOf xs) v) (secondsOf (lastOr (pos 0) ts -ℤ t))
 
 -- the slope of the regression's line
 unfoldable pub derivSlowOf : RollupFuncArg → List Float → List ℤ → Float

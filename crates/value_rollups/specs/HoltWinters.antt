@@ -1,10 +1,10 @@
 -- The rollup of holt_winters.rs, double exponential smoothing.
 -- Assumes nothing.
-use mathlib.Core.List.{List}
+use mathlib.Core.List.{List, foldl}
 use mathlib.Core.Bool.{Bool, cond, _||_}
 use lib.ListN.{drop}
 use lib.Ieee.{Float, nan, binary64, add, sub, mul, le, isNan}
-use Rattle.window.specs.Window.{isEmpty, firstOf, foldFrom, zeroF, oneF}
+use Rattle.window.specs.Window.{isEmpty, firstOf, zeroF, oneF}
 
 -- whether a factor does not stand between 0.0 and 1.0; a NaN is taken to stand there
 unfoldable pub outOfRange : Float → Bool
@@ -21,7 +21,7 @@ smooth sf tf s v =
 
 -- the level after the values, from s and the trend to the first of them; NaN where there is none
 unfoldable pub smoothFrom : Float → Float → Float → List Float → Float
-smoothFrom sf tf s xs = cond (isEmpty xs) nan (foldFrom (smooth sf tf) (s, sub binary64 (firstOf xs) s) xs .0)
+smoothFrom sf tf s xs = cond (isEmpty xs) nan (foldl (smooth sf tf) (s, sub binary64 (firstOf xs) s) xs .0)
 
 -- the predecessor for an empty window, whatever the factors; NaN for one reading and no predecessor
 unfoldable pub holtWintersOf : Float → Float → Float → List Float → Float

@@ -1,6 +1,6 @@
 -- The rollups of rollup_fns.rs that answer from a window's values `xs`, each as the Rust's operations in source order.
 -- Assumes nothing.
-use mathlib.Core.List.{List}
+use mathlib.Core.List.{List, foldl}
 use mathlib.Core.Bool.{true, false, cond}
 use Prim.Native.Nat.{ℕ, _+_}
 use lib.ListN.{length, drop}
@@ -8,11 +8,12 @@ use lib.Ieee.{Float, nan, binary64, add, sub, mul, div, lt, eq}
 use Rattle.sort.specs.Order.{sorted}
 use Rattle.sort.specs.declared.Order.the-variants.{Total}
 use Rattle.window.specs.declared.types.RollupFuncArg.{RollupFuncArg}
-use Rattle.window.specs.Window.{isEmpty, firstOf, foldFrom, further, zeroF, oneF, countF, secondsF}
+use Rattle.ieee.specs.Value.{secondsOf}
+use Rattle.window.specs.Window.{isEmpty, firstOf, further, zeroF, oneF, countF}
 
 -- the values added up in order, from +0.0, also for avg and rate_over_sum
 unfoldable pub totalOf : List Float → Float
-totalOf xs = foldFrom (add binary64) zeroF xs
+totalOf xs = foldl (add binary64) zeroF xs
 
 -- the sum, NaN for an empty window
 unfoldable pub sumOf : List Float → Float
@@ -24,7 +25,7 @@ avgOf xs = cond (isEmpty xs) nan (div binary64 (totalOf xs) (countF (length xs))
 
 -- the sum by the window's length in seconds
 unfoldable pub rateOverSumOf : RollupFuncArg → List Float → Float
-rateOverSumOf r xs = cond (isEmpty xs) nan (div binary64 (totalOf xs) (secondsF (r .window)))
+rateOverSumOf r xs = cond (isEmpty xs) nan (div binary64 (totalOf xs) (secondsOf (r .window)))
 
 -- s and the square of v
 abbrev pub addSquare : Float → Float → Float
@@ -32,11 +33,11 @@ addSquare s v = add binary64 s (mul binary64 v v)
 
 -- the sum of the squares
 unfoldable pub sum2Of : List Float → Float
-sum2Of xs = cond (isEmpty xs) nan (foldFrom addSquare zeroF xs)
+sum2Of xs = cond (isEmpty xs) nan (foldl addSquare zeroF xs)
 
 -- the minimum is the first of equals
 unfoldable pub minOf : List Float → Float
-minOf xs = cond (isEmpty xs) nan (foldFrom (further true) (firstOf xs) xs)
+minOf xs = cond (isEmpty xs) nan (foldl (further true) (firstOf xs) xs)
 
 -- the greater of two, v where they are equal
 abbrev pub noLesser : Float → Float → Float
@@ -44,11 +45,11 @@ noLesser m v = cond (lt v m) m v
 
 -- the maximum is the last of equals
 unfoldable pub maxOf : List Float → Float
-maxOf xs = cond (isEmpty xs) nan (foldFrom noLesser (firstOf xs) (drop 1 xs))
+maxOf xs = cond (isEmpty xs) nan (foldl noLesser (firstOf xs) (drop 1 xs))
 
 -- the greatest value less the least
 unfoldable pub rangeOf : List Float → Float
-rangeOf xs = cond (isEmpty xs) nan (sub binary64 (foldFrom (further false) (firstOf xs) xs) (foldFrom (further true) (firstOf xs) xs))
+rangeOf xs = cond (isEmpty xs) nan (sub binary64 (foldl (further false) (firstOf xs) xs) (foldl (further true) (firstOf xs) xs))
 
 -- 1.0 for an empty window
 unfoldable pub absentOf : List Float → Float
@@ -68,7 +69,7 @@ dedup s v = cond (eq v (s .0)) s (v, s .1 + 1)
 
 -- how many values are kept of sorted ones
 unfoldable pub distinctFrom : List Float → ℕ
-distinctFrom xs = foldFrom dedup (firstOf xs, 1) (drop 1 xs) .1
+distinctFrom xs = foldl dedup (firstOf xs, 1) (drop 1 xs) .1
 
 -- the values sorted by `total_cmp`, equals dropped
 unfoldable pub distinctOf : List Float → Float

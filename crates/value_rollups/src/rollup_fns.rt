@@ -5,6 +5,7 @@ use window::types::first;
 use window::types::last;
 use window::types::nan;
 use window::types::value_at;
+ghost use mathlib.Core.List.{foldl};
 ghost use mathlib.Core.Path.{_≡_};
 ghost use Prim.Native.Nat.{_*_, _≤_, _<_};
 ghost use lib.ListN.{length};
@@ -12,7 +13,7 @@ ghost use Rattle.math.specs.Deviation.{stddevOf, stdvarOf};
 ghost use Rattle.math.specs.Mode.{modeOf};
 ghost use Rattle.math.specs.Quantile.{madOf, medianOf};
 ghost use Rattle.ieee.specs.Patterns.{floats};
-ghost use Rattle.window.specs.Window.{beyond, firstOf, foldFrom, further, lastOf};
+ghost use Rattle.window.specs.Window.{beyond, firstOf, further, lastOf};
 ghost use Rattle.value_rollups.specs.RollupFns.{absentOf, avgOf, countOf, distinctFrom, distinctOf, maxOf, minOf, presentOf, rangeOf, rateOverSumOf, sum2Of, sumOf, totalOf};
 
 // The values added up from +0.0.
@@ -46,7 +47,7 @@ pub fn is_beyond(down: bool, m: f64, v: f64) -> bool
 
 // The furthest value that way, from m on: replaced only by one that lies beyond it.
 pub fn extreme(down: bool, m: f64, values: &[u64]) -> f64
-    ensures { λ r. ⌜ r ≡ foldFrom (further down) m (floats (now (values .entry))) ⌝ }
+    ensures { λ r. ⌜ r ≡ foldl (further down) m (floats (now (values .entry))) ⌝ }
 {
     let mut furthest = m;
     let mut i = 0;

@@ -2,7 +2,7 @@
 -- Assumes nothing.
 use Prim.Native.Nat.{ℕ, zero, suc, _+_, _≤_, _<_}
 use mathlib.Core.Path.{_≡_, refl, ap}
-use mathlib.Core.List.{List, [], _∷_}
+use mathlib.Core.List.{List, [], _∷_, foldl}
 use native.Mathlib.Omega.{arith}
 use native.Mathlib.Numerals.{add-one}
 use lib.ListN.{length, drop, getD, drop-of-length-le}
@@ -11,26 +11,24 @@ use lib.IntN.{ℤ, pos}
 use native.Mathlib.Nat.{le-of-suc-le-suc, not-suc-le-zero}
 use lib.Ieee.{Float, nan, binary64, ofBits}
 use Rattle.ieee.specs.Patterns.{floats}
-use Rattle.window.specs.Window.{readings, foldFrom}
+use Rattle.window.specs.Window.{readings}
 use Rattle.ieee.proofs.Floats.{length-floats, getD-floats}
 
 -- the fold from s over the items from i on is the whole
 pub record Folded {A S : Type 0} (step : S → A → S) (xs : List A) (whole s : S) (i : ℕ) : Type 0 where
-  pub left : foldFrom step s (drop i xs) ≡ whole
+  pub left : foldl step s (drop i xs) ≡ whole
 
 -- the item at i is x
 pub record At {A : Type 0} (xs : List A) (i : ℕ) (x : A) : Type 0 where
   pub here : drop i xs ≡ x ∷ drop (i + 1) xs
 
-pub start : {A S : Type 0} {step : S → A → S} {xs : List A} {s : S} {i : ℕ} → Folded step xs (foldFrom step s (drop i xs)) s i
+pub start : {A S : Type 0} {step : S → A → S} {xs : List A} {s : S} {i : ℕ} → Folded step xs (foldl step s (drop i xs)) s i
 start = record { left = refl }
 
 pub turn : {A S : Type 0} {step : S → A → S} {xs : List A} {whole s s′ : S} {i : ℕ} {x : A} → Folded step xs whole s i → At xs i x → s′ ≡ step s x → Folded step xs whole s′ (i + 1)
-unfolding foldFrom
 turn h at e = record { left = rw e (rw (at .here) at (h .left)) }
 
 pub done : {A S : Type 0} {step : S → A → S} {xs : List A} {whole s : S} {i : ℕ} → length xs ≤ i → Folded step xs whole s i → s ≡ whole
-unfolding foldFrom
 done {xs = xs} e h = rw (drop-of-length-le xs e) at (h .left)
 
 -- the item at i, whatever stands past the end

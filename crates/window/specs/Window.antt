@@ -37,11 +37,6 @@ firstOf xs = firstOr nan xs
 abbrev pub lastOf : List Float → Float
 lastOf xs = lastOr nan xs
 
--- a loop over the items in order, from the state s
-unfoldable pub foldFrom : {A S : Type 0} → (S → A → S) → S → List A → S
-foldFrom step s [] = s
-foldFrom step s (x ∷ xs) = foldFrom step (step s x) xs
-
 -- the count with one more item in front: it counts if it passes, or if one behind it does
 abbrev pub counted : Bool → ℕ → ℕ
 counted true n = suc n
@@ -76,7 +71,3 @@ oneF = ofBits binary64 0x3FF0000000000000
 -- a number of items as a float
 abbrev pub countF : ℕ → Float
 countF n = ofInt binary64 (pos n)
-
--- milliseconds as seconds
-abbrev pub secondsF : ℤ → Float
-secondsF ms = div binary64 (ofInt binary64 ms) (ofBits binary64 0x408F400000000000)

@@ -9,7 +9,8 @@ ghost use lib.Signed.{ltZ};
 ghost use lib.Ieee as Ieee;
 ghost use lib.Ieee.{binary64, isNan, ofBits};
 ghost use Rattle.ieee.specs.Patterns.{floats};
-ghost use Rattle.window.specs.Window.{firstOf, firstOr, lastOf, lastOr, secondsF, upToLast};
+ghost use Rattle.ieee.specs.Value.{secondsOf};
+ghost use Rattle.window.specs.Window.{firstOf, firstOr, lastOf, lastOr, upToLast};
 
 pub struct RollupFuncArg {
     // The value of the last reading at or before the window's start, if that reading is later than the start
@@ -172,7 +173,7 @@ pub fn count_up_to(timestamps: &[i64], t: i64) -> usize
 // The seconds from one time to another.
 pub fn seconds_between(from: i64, to: i64) -> f64
     requires { ⌜ natAbs to + natAbs from < 2 ^ 63 ⌝ }
-    ensures { λ r. ⌜ r ≡ secondsF (to -ℤ from) ⌝ }
+    ensures { λ r. ⌜ r ≡ secondsOf (to -ℤ from) ⌝ }
 {
     ieee::seconds(to - from)
 }

@@ -1,5 +1,6 @@
 -- `change_rollups::rollup_fns::count_changes` meets its contract: it folds `change` over the values, and counts at most one for each.
 -- Assumes nothing.
+use mathlib.Core.List.{foldl}
 use mathlib.Core.Logic.{⊎-elim}
 use mathlib.Core.Path.{ap}
 use lib.Ieee.{Float}
@@ -8,7 +9,6 @@ use Prim.Native.Nat.{ℕ, _-_, _≤_}
 use lib.ListN.{length}
 use borrow.Author.Needs.{needs}
 use Rattle.ieee.specs.Patterns.{floats}
-use Rattle.window.specs.Window.{foldFrom}
 use Rattle.window.proofs.Folds.{Folded, start, turn, done-values, value}
 use Rattle.change_rollups.specs.RollupFns.{change, changesFrom}
 use Rattle.change_rollups.proofs.rollup_fns.count_changes.Statement.{statement}
@@ -16,7 +16,7 @@ use Rattle.change_rollups.proofs.rollup_fns.count_changes.Tie as tie
 
 abbrev Inv-loop : tie.InvT-loop
 Inv-loop prev-value values compared₀ n₀ i₀ compared n i =
-    Folded change (floats values) (foldFrom change (prev-value, 0) (floats values)) (compared, n) i × (n ≤ i) × (i ≤ length values)
+    Folded change (floats values) (foldl change (prev-value, 0) (floats values)) (compared, n) i × (n ≤ i) × (i ≤ length values)
 
 abbrev μ-loop : tie.MeasureT-loop
 μ-loop prev-value values compared₀ n₀ i₀ compared n i = length values - i

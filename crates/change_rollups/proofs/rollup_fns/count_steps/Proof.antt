@@ -1,5 +1,6 @@
 -- `change_rollups::rollup_fns::count_steps` meets its contract: it folds `tally` over the values, and counts at most one for each.
 -- Assumes nothing.
+use mathlib.Core.List.{foldl}
 use mathlib.Core.Logic.{⊎-elim}
 use mathlib.Core.Path.{ap, _∙_}
 use lib.Ieee.{Float}
@@ -9,7 +10,7 @@ use lib.ListN.{length}
 use borrow.Author.Needs.{needs}
 use borrow.Author.Tests.{not-true, not-false}
 use Rattle.ieee.specs.Patterns.{floats}
-use Rattle.window.specs.Window.{foldFrom, countF}
+use Rattle.window.specs.Window.{countF}
 use Rattle.window.proofs.Folds.{Folded, start, turn, done-values, value}
 use Rattle.change_rollups.specs.RollupFns.{tally, stepsFrom}
 use Rattle.change_rollups.proofs.rollup_fns.count_steps.Statement.{statement}
@@ -17,7 +18,7 @@ use Rattle.change_rollups.proofs.rollup_fns.count_steps.Tie as tie
 
 abbrev Inv-loop : tie.InvT-loop
 Inv-loop down prev-value values compared₀ n₀ i₀ compared n i =
-    Folded (tally down) (floats values) (foldFrom (tally down) (prev-value, 0) (floats values)) (compared, n) i × (n ≤ i)
+    Folded (tally down) (floats values) (foldl (tally down) (prev-value, 0) (floats values)) (compared, n) i × (n ≤ i)
 
 abbrev μ-loop : tie.MeasureT-loop
 μ-loop down prev-value values compared₀ n₀ i₀ compared n i = length values - i

@@ -1,5 +1,6 @@
 -- `change_rollups::rollup_fns::slide_over` meets its contract: it folds `slide` over the values.
 -- Assumes nothing.
+use mathlib.Core.List.{foldl}
 use mathlib.Core.Logic.{⊎-elim}
 use mathlib.Core.Path.{ap}
 use lib.Ieee.{Float}
@@ -7,7 +8,7 @@ use Prim.Native.Nat.{_-_}
 use lib.ListN.{length}
 use borrow.Author.Needs.{needs}
 use Rattle.ieee.specs.Patterns.{floats}
-use Rattle.window.specs.Window.{foldFrom, zeroF}
+use Rattle.window.specs.Window.{zeroF}
 use Rattle.window.proofs.Folds.{Folded, start, turn, done-values, value}
 use Rattle.change_rollups.specs.RollupFns.{slide, slideFrom}
 use Rattle.change_rollups.proofs.rollup_fns.slide_over.Statement.{statement}
@@ -15,7 +16,7 @@ use Rattle.change_rollups.proofs.rollup_fns.slide_over.Tie as tie
 
 abbrev Inv-loop : tie.InvT-loop
 Inv-loop down prev-value values before₀ s₀ i₀ before s i =
-    Folded (slide down) (floats values) (foldFrom (slide down) (prev-value, zeroF) (floats values)) (before, s) i
+    Folded (slide down) (floats values) (foldl (slide down) (prev-value, zeroF) (floats values)) (before, s) i
 
 abbrev μ-loop : tie.MeasureT-loop
 μ-loop down prev-value values before₀ s₀ i₀ before s i = length values - i

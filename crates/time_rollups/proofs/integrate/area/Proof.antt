@@ -1,5 +1,6 @@
 -- `time_rollups::integrate::area` meets its contract: it folds `extend` over the readings.
 -- Assumes nothing.
+use mathlib.Core.List.{foldl}
 use borrow.Author.Needs.{needs}
 use native.Mathlib.Omega.{arith}
 use Prim.Native.Nat.{_-_, _*_, _≤_}
@@ -11,7 +12,7 @@ use mir.Val.{toZ}
 use mir.Facts.{toZ-ofZ}
 use Rattle.times.proofs.Milli.{read-back}
 use Rattle.ieee.specs.Patterns.{floats}
-use Rattle.window.specs.Window.{readings, foldFrom, zeroF}
+use Rattle.window.specs.Window.{readings, zeroF}
 use Rattle.window.proofs.Folds.{Folded, start, turn, reading, done-readings}
 use Rattle.time_rollups.specs.Integrate.{areaAt, areaFrom, extend}
 use Rattle.time_rollups.proofs.integrate.area.Statement.{statement}
@@ -20,7 +21,7 @@ use Rattle.time_rollups.proofs.integrate.area.Tie as tie
 abbrev Inv-loop : tie.InvT-loop
 Inv-loop v t values timestamps end prev-value₀ prev-timestamp₀ sum₀ i₀ prev-value prev-timestamp sum i =
     Folded extend (readings (floats values) timestamps)
-    (foldFrom extend (record { value = v; time = toZ w64 t; sum = zeroF }) (readings (floats values) timestamps))
+    (foldl extend (record { value = v; time = toZ w64 t; sum = zeroF }) (readings (floats values) timestamps))
     (record { value = prev-value; time = toZ w64 prev-timestamp; sum = sum }) i
     × (natAbs (toZ w64 prev-timestamp) ≤ 2 * recordLimit)
 

@@ -1,5 +1,6 @@
 -- `time_rollups::rollup_fns::extreme_time` meets its contract: it folds `latest` over the readings.
 -- Assumes nothing.
+use mathlib.Core.List.{foldl}
 use mathlib.Core.Logic.{⊎-elim}
 use mathlib.Core.Path.{ap, _∙_}
 use Prim.Native.Nat.{_-_}
@@ -11,7 +12,8 @@ use borrow.Author.Needs.{needs}
 use lib.Ieee.{Float}
 use Rattle.times.proofs.Milli.{read-back}
 use Rattle.ieee.specs.Patterns.{floats}
-use Rattle.window.specs.Window.{readings, foldFrom, firstOf, firstOr, secondsF}
+use Rattle.ieee.specs.Value.{secondsOf}
+use Rattle.window.specs.Window.{readings, firstOf, firstOr}
 use Rattle.window.proofs.Window.{no-values, some-values}
 use Rattle.window.proofs.Folds.{Folded, start, turn, reading, done-readings}
 use Rattle.time_rollups.specs.RollupFns.{latest, extremeTime}
@@ -21,7 +23,7 @@ use Rattle.time_rollups.proofs.rollup_fns.extreme_time.Tie as tie
 abbrev Inv-loop : tie.InvT-loop
 Inv-loop down values timestamps furthest₀ time₀ i₀ furthest time i =
     Folded (latest down) (readings (floats values) timestamps)
-    (foldFrom (latest down) (firstOf (floats values), firstOr (pos 0) timestamps) (readings (floats values) timestamps)) (furthest, toZ w64 time) i
+    (foldl (latest down) (firstOf (floats values), firstOr (pos 0) timestamps) (readings (floats values) timestamps)) (furthest, toZ w64 time) i
 
 abbrev μ-loop : tie.MeasureT-loop
 μ-loop down values timestamps furthest₀ time₀ i₀ furthest time i = length values - i
@@ -45,7 +47,7 @@ unfolding extremeTime
 returns-2 c =
     let s = c .before .before .before .before .before .before .before in
     rw (some-values _ (c .before .before .before .before .before .if1 .left))
-    (c .seconds .ensures ∙ ap (λ (s : Float × ℤ). secondsF (s .1)) (done-readings _ _ (s .pre) (c .before .loop-test .left) (c .before .before .loop .inv)))
+    (c .seconds .ensures ∙ ap (λ (s : Float × ℤ). secondsOf (s .1)) (done-readings _ _ (s .pre) (c .before .loop-test .left) (c .before .before .loop .inv)))
 
 pub extreme-time-spec : {M : Type 1} → statement M
 extreme-time-spec = tie.close (tie.spec Inv-loop μ-loop (λ c κs. search needs) returns (λ c κs. search needs) (λ c κs. search needs) loop-holds (λ c κs. search needs) (λ c κs. search needs) (λ c κs. search needs) (λ c. search needs) (λ c. search needs) loop-again (λ c κs. search needs) returns-2)

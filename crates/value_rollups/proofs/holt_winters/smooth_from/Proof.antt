@@ -1,12 +1,13 @@
 -- `value_rollups::holt_winters::smooth_from` meets its contract: it folds `smooth` over the values.
 -- Assumes nothing.
+use mathlib.Core.List.{foldl}
 use mathlib.Core.Path.{refl, ap}
 use Prim.Native.Nat.{_-_}
 use lib.ListN.{length}
 use borrow.Author.Needs.{needs}
 use lib.Ieee.{Float, binary64, sub}
 use Rattle.ieee.specs.Patterns.{floats}
-use Rattle.window.specs.Window.{foldFrom, firstOf}
+use Rattle.window.specs.Window.{firstOf}
 use Rattle.window.proofs.Window.{no-values, some-values}
 use Rattle.window.proofs.Folds.{Folded, start, turn, done-values, value}
 use Rattle.value_rollups.specs.HoltWinters.{smooth, smoothFrom}
@@ -15,7 +16,7 @@ use Rattle.value_rollups.proofs.holt_winters.smooth_from.Tie as tie
 
 abbrev Inv-loop : tie.InvT-loop
 Inv-loop sf tf s values s0₀ b0₀ i₀ s0 b0 i =
-    Folded (smooth sf tf) (floats values) (foldFrom (smooth sf tf) (s, sub binary64 (firstOf (floats values)) s) (floats values)) (s0, b0) i
+    Folded (smooth sf tf) (floats values) (foldl (smooth sf tf) (s, sub binary64 (firstOf (floats values)) s) (floats values)) (s0, b0) i
 
 abbrev μ-loop : tie.MeasureT-loop
 μ-loop sf tf s values s0₀ b0₀ i₀ s0 b0 i = length values - i

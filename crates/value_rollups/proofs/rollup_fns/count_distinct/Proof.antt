@@ -1,5 +1,6 @@
 -- `value_rollups::rollup_fns::count_distinct` meets its contract: it folds `dedup` over the sorted values, and counts at most one for each.
 -- Assumes nothing.
+use mathlib.Core.List.{foldl}
 use mathlib.Core.Logic.{⊎-elim}
 use mathlib.Core.Path.{ap}
 use native.Mathlib.Omega.{arith}
@@ -8,7 +9,7 @@ use lib.ListN.{length, drop, getD}
 use borrow.Author.Needs.{needs}
 use lib.Ieee.{Float, nan, eq, ne}
 use borrow.Author.Tests.{not-true, not-false}
-use Rattle.window.specs.Window.{foldFrom, firstOf}
+use Rattle.window.specs.Window.{firstOf}
 use Rattle.window.proofs.Window.{first-at}
 use Rattle.window.proofs.Folds.{Folded, start, turn, done, item}
 use Rattle.value_rollups.specs.RollupFns.{dedup, distinctFrom}
@@ -16,7 +17,7 @@ use Rattle.value_rollups.proofs.rollup_fns.count_distinct.Statement.{st
 use Rattle.value_rollups.proofs.rollup_fns.count_distinct.Tie as tie
 
 abbrev Inv-loop : tie.InvT-loop
-Inv-loop sorted kept₀ n₀ i₀ kept n i = Folded dedup sorted (foldFrom dedup (firstOf sorted, 1) (drop 1 sorted)) (kept, n) i × (n ≤ i)
+Inv-loop sorted kept₀ n₀ i₀ kept n i = Folded dedup sorted (foldl dedup (firstOf sorted, 1) (drop 1 sorted)) (kept, n) i × (n ≤ i)
 
 abbrev μ-loop : tie.MeasureT-loop
 μ-loop sorted kept₀ n₀ i₀ kept n i = length sorted - i

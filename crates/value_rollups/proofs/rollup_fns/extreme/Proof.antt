@@ -1,17 +1,18 @@
 -- `value_rollups::rollup_fns::extreme` meets its contract: it folds `further` over the values.
 -- Assumes nothing.
+use mathlib.Core.List.{foldl}
 use mathlib.Core.Logic.{⊎-elim}
 use Prim.Native.Nat.{_-_}
 use lib.ListN.{length}
 use borrow.Author.Needs.{needs}
 use Rattle.ieee.specs.Patterns.{floats}
-use Rattle.window.specs.Window.{foldFrom, further}
+use Rattle.window.specs.Window.{further}
 use Rattle.window.proofs.Folds.{Folded, start, turn, done-values, value}
 use Rattle.value_rollups.proofs.rollup_fns.extreme.Statement.{statement}
 use Rattle.value_rollups.proofs.rollup_fns.extreme.Tie as tie
 
 abbrev Inv-loop : tie.InvT-loop
-Inv-loop down m values furthest₀ i₀ furthest i = Folded (further down) (floats values) (foldFrom (further down) m (floats values)) furthest i
+Inv-loop down m values furthest₀ i₀ furthest i = Folded (further down) (floats values) (foldl (further down) m (floats values)) furthest i
 
 abbrev μ-loop : tie.MeasureT-loop
 μ-loop down m values furthest₀ i₀ furthest i = length values - i

@@ -1,5 +1,6 @@
 -- `value_rollups::rollup_fns::rollup_max` meets its contract: it folds `noLesser` over the values, from the first.
 -- Assumes nothing.
+use mathlib.Core.List.{foldl}
 use mathlib.Core.Logic.{⊎-elim}
 use Prim.Native.Nat.{_-_}
 use lib.ListN.{length, drop}
@@ -7,7 +8,7 @@ use borrow.Author.Needs.{needs}
 use lib.Ieee.{lt}
 use borrow.Author.Tests.{not-true, not-false}
 use Rattle.ieee.specs.Patterns.{floats}
-use Rattle.window.specs.Window.{foldFrom, firstOf}
+use Rattle.window.specs.Window.{firstOf}
 use Rattle.window.proofs.Window.{no-values, some-values}
 use Rattle.window.proofs.Folds.{Folded, start, turn, done-values, value}
 use Rattle.value_rollups.specs.RollupFns.{noLesser, maxOf}
@@ -15,7 +16,7 @@ use Rattle.value_rollups.proofs.rollup_fns.rollup_max.Statement.{statem
 use Rattle.value_rollups.proofs.rollup_fns.rollup_max.Tie as tie
 
 abbrev Inv-loop : tie.InvT-loop
-Inv-loop values max-value₀ i₀ max-value i = Folded noLesser (floats values) (foldFrom noLesser (firstOf (floats values)) (drop 1 (floats values))) max-value i
+Inv-loop values max-value₀ i₀ max-value i = Folded noLesser (floats values) (foldl noLesser (firstOf (floats values)) (drop 1 (floats values))) max-value i
 
 abbrev μ-loop : tie.MeasureT-loop
 μ-loop values max-value₀ i₀ max-value i = length values - i

@@ -1,5 +1,6 @@
 -- `value_rollups::rollup_fns::rollup_range` meets its contract: it folds `further` over the values, up and down.
 -- Assumes nothing.
+use mathlib.Core.List.{foldl}
 use mathlib.Core.Bool.{false, true}
 use mathlib.Core.Logic.{⊎-elim}
 use mathlib.Core.Path.{ap₂}
@@ -8,7 +9,7 @@ use lib.ListN.{length}
 use borrow.Author.Needs.{needs}
 use lib.Ieee.{binary64, sub}
 use Rattle.ieee.specs.Patterns.{floats}
-use Rattle.window.specs.Window.{firstOf, foldFrom, further}
+use Rattle.window.specs.Window.{firstOf, further}
 use Rattle.window.proofs.Folds.{Folded, start, turn, done-values, value}
 use Rattle.window.proofs.Window.{no-values, some-values}
 use Rattle.value_rollups.specs.RollupFns.{rangeOf}
@@ -17,8 +18,8 @@ use Rattle.value_rollups.proofs.rollup_fns.rollup_range.Tie as tie
 
 abbrev Inv-loop : tie.InvT-loop
 Inv-loop values max₀ min₀ i₀ max min i =
-    Folded (further false) (floats values) (foldFrom (further false) (firstOf (floats values)) (floats values)) max i
-    × Folded (further true) (floats values) (foldFrom (further true) (firstOf (floats values)) (floats values)) min i
+    Folded (further false) (floats values) (foldl (further false) (firstOf (floats values)) (floats values)) max i
+    × Folded (further true) (floats values) (foldl (further true) (firstOf (floats values)) (floats values)) min i
 
 abbrev μ-loop : tie.MeasureT-loop
 μ-loop values max₀ min₀ i₀ max min i = length values - i

@@ -1,10 +1,11 @@
 -- `value_rollups::rollup_fns::rollup_sum2` meets its contract: it folds the squares' addition over the values.
 -- Assumes nothing.
+use mathlib.Core.List.{foldl}
 use Prim.Native.Nat.{_-_}
 use lib.ListN.{length}
 use borrow.Author.Needs.{needs}
 use Rattle.ieee.specs.Patterns.{floats}
-use Rattle.window.specs.Window.{foldFrom, zeroF}
+use Rattle.window.specs.Window.{zeroF}
 use Rattle.window.proofs.Window.{no-values, some-values}
 use Rattle.window.proofs.Folds.{Folded, start, turn, done-values, value}
 use Rattle.value_rollups.specs.RollupFns.{addSquare, sum2Of}
@@ -12,7 +13,7 @@ use Rattle.value_rollups.proofs.rollup_fns.rollup_sum2.Statement.{state
 use Rattle.value_rollups.proofs.rollup_fns.rollup_sum2.Tie as tie
 
 abbrev Inv-loop : tie.InvT-loop
-Inv-loop values sum₀ i₀ sum i = Folded addSquare (floats values) (foldFrom addSquare zeroF (floats values)) sum i
+Inv-loop values sum₀ i₀ sum i = Folded addSquare (floats values) (foldl addSquare zeroF (floats values)) sum i
 
 abbrev μ-loop : tie.MeasureT-loop
 μ-loop values sum₀ i₀ sum i = length values - i
