@@ -14,16 +14,15 @@ use lib.ListN.{length, take, drop, getD, length-take, length-drop}
 use lib.Signed.{leZ}
 use Rattle.config.specs.Rows.{maxPoints, outside, row6, row7, row11, settledRow8, settledRow9, settledSettings, spanOutside}
 use Rattle.run.proofs.Passed.{run-sound, settled-sound}
-use Rattle.run.specs.Run.{Lent, Plan, lentChecked, planned, row12, row14, runPlan, settledChecked, settledPlan, slicesChecked}
+use Rattle.run.specs.Run.{Lent, Plan, lentChecked, planned, row12, row14, settledChecked, slicesChecked}
 use Rattle.config.specs.declared.settings.SettledConfig.{SettledConfig}
 use Rattle.series.specs.Refusals.{firstOf, refusedIf}
 use Rattle.series.specs.Rows.{row1, row5, row13, seriesChecked, timesChecked}
 use Rattle.series.specs.declared.refusal.Checked.{Checked}
 use Rattle.series.specs.declared.refusal.Checked.the-variants.{Accepted, Refused}
 use Rattle.series.specs.declared.refusal.Refusal.{Refusal}
-use Rattle.series.specs.declared.refusal.Refusal.the-variants.{OutputShort, PreparedShort, SpanOutside, StepOutside, WorkShort}
-use Rattle.series.specs.declared.steps.PreFunction.{PreFunction}
-use Rattle.series.proofs.Accepted.{AllAccept, all-accept, fails}
+use Rattle.series.specs.declared.refusal.Refusal.the-variants.{OutputShort, PreparedShort, WorkShort}
+use Rattle.series.proofs.Accepted.{AllAccept, all-accept}
 use Rattle.times.specs.Grid.{Spans, gridFrom, gridSize, timeAt}
 use Rattle.times.specs.Milli.{timeLimit, Within}
 use Rattle.times.proofs.GridLaws.{grid-at, grid-cut, grid-length, spans-cut}

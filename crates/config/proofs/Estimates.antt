@@ -5,9 +5,9 @@ use Prim.Native.Nat.{ℕ, zero, suc, _+_, _-_, _*_, _/_, _^_, _≤_, _<_, min}
 use native.Mathlib.Omega.{arith}
 use mathlib.Core.Logic.{_⊎_, inl, inr, ⊎-elim}
 use mathlib.Core.Path.{_≡_, refl, sym}
-use mathlib.Core.Bool.{Bool, true, false, _&&_, cond}
+use mathlib.Core.Bool.{Bool, true, false, _&&_}
 use mathlib.Core.List.{List, [], _∷_, map}
-use borrow.Author.Tests.{eqb-true, eqb-false, ltb-true, ltb-false, leb-false}
+use borrow.Author.Tests.{eqb-false, ltb-true, ltb-false, leb-false}
 use lib.Dec.{T, leb, ltb, eqb, leb→le, lit≤, lit<}
 use lib.IntN.{ℤ, pos, negsuc, natAbs}
 use lib.Ieee.{Float, nan, inf, fin, binary64, isNan, up, down, ofBits, ofInt, add, sub, mul, round, lt, toUnsigned, toSigned}
@@ -15,7 +15,6 @@ use lib.Ieee.Fits.{and-l, and-r, down-pos}
 use lib.Ieee.Nearest.{div-mono}
 use lib.Ieee.Positive.{num, den, den-pos, through}
 use lib.ListN.{length, getD, take, length-take, length-map}
-use lib.Signed.{leZ}
 use Rattle.ieee.specs.Value.{floorOf}
 use Rattle.math.specs.Values.{kept}
 use Rattle.math.specs.Sort.{All, insertBy, sortBy}
@@ -30,7 +29,7 @@ use Rattle.times.proofs.Order.{offset-of}
 use Rattle.times.proofs.Later.{not-falling-tail}
 use Rattle.times.proofs.Milli.{within-sub}
 use Rattle.times.proofs.Order.{by-test}
-use Rattle.config.specs.Estimate.{silence, distancesFrom, distances, firstIntervals, orSilence, estimateOf}
+use Rattle.config.specs.Estimate.{distancesFrom, distances, firstIntervals, orSilence, estimateOf}
 use Rattle.config.proofs.Bounded.{plain, Below, round-below, mul-below, add-below}
 use Rattle.config.proofs.Passed.{UpTo}
 

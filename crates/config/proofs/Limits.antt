@@ -1,11 +1,11 @@
 -- Window and reach of an accepted settle lie in 1..2^52, so a settled run that is given them passes its row 8.
 -- Assumes nothing.
-use Prim.Native.Nat.{ℕ, _+_, _*_, _/_, _^_, _≤_, _<_, min, max}
+use Prim.Native.Nat.{ℕ, _^_, _≤_, _<_}
 use native.Mathlib.Omega.{arith}
-use mathlib.Core.Path.{_≡_, refl, sym, ap, _∙_}
+use mathlib.Core.Path.{_≡_, refl, ap}
 use mathlib.Core.Bool.{Bool, true, false, cond}
 use mathlib.Core.List.{List, [], _∷_}
-use borrow.Author.Tests.{leb-true, leb-false, ltb-true, ltb-false, le-leb, lt-ltb, le-ltb}
+use borrow.Author.Tests.{leb-true, ltb-true, le-ltb}
 use lib.Dec.{leb, ltb}
 use lib.IntN.{ℤ, pos, negsuc, natAbs}
 use lib.Signed.{leZ}
@@ -24,7 +24,7 @@ use Rattle.config.specs.Rows.{outside, settledLimit, settledRow8, settin
 use Rattle.config.specs.Settle.{Settlement, settledReach, settledWindow, settlement, settleOf}
 use Rattle.config.proofs.Distances.{not-falling, within}
 use Rattle.config.proofs.Estimates.{estimate-small, estimate-some}
-use Rattle.config.proofs.Passed.{UpTo, Passed, settings-passed}
+use Rattle.config.proofs.Passed.{settings-passed}
 
 -- from 1 to 2^52
 pub record Settleable (n : ℕ) : Type 0 where

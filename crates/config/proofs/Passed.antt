@@ -5,7 +5,7 @@ use native.Mathlib.Omega.{arith}
 use mathlib.Core.Path.{_≡_, refl, sym, subst, _∙_}
 use mathlib.Core.Bool.{Bool, true, false, _||_, false≢true}
 use mathlib.Core.List.{List, [], _∷_}
-use borrow.Author.Tests.{leb-true, ltb-false, not-false}
+use borrow.Author.Tests.{leb-true, not-false}
 use lib.IntN.{ℤ, pos, negsuc, negℤ, natAbs}
 use lib.Dec.{T}
 use lib.Signed.{ltZ, leZ, nonNeg}
@@ -13,7 +13,7 @@ use mir.Syntax.{w64}
 use mir.Val.{Fits, SFits, toZ, ofZ}
 use mir.Facts.{toZ-ofZ}
 use Rattle.times.specs.Milli.{timeLimit, Within}
-use Rattle.times.specs.Grid.{Spans, gridSize}
+use Rattle.times.specs.Grid.{Spans}
 use Rattle.times.proofs.Milli.{within-fits}
 use Rattle.times.proofs.Order.{lt-not-le}
 use Rattle.series.specs.Refusals.{firstOf}

@@ -2,7 +2,7 @@
 -- row 8 of its own, only the last part of row 9, and no row 10. Ranges include both ends.
 -- Assumes nothing.
 use mathlib.Core.Bool.{Bool, _||_, _&&_}
-use mathlib.Core.List.{List, [], _∷_}
+use mathlib.Core.List.{[], _∷_}
 use Prim.Native.Nat.{ℕ, _^_}
 use lib.Dec.{ltb}
 use lib.IntN.{ℤ, pos, negℤ, _+ℤ_, _-ℤ_}

@@ -1,6 +1,6 @@
 -- `run::settled_run` meets its contract: the rows come in the table's order, a refusal touches no slice, and what no row refuses is executed.
 -- Assumes nothing.
-use mathlib.Core.Path.{_≡_, sym, ap, _∙_}
+use mathlib.Core.Path.{_≡_, sym, _∙_}
 use borrow.Author.Needs.{needs}
 use lib.ListN.{length}
 use Rattle.config.specs.Course.{settledCourse}

@@ -1,13 +1,13 @@
 -- `estimate::first_intervals` meets its contract: the first n entries are the first n intervals.
 -- Assumes nothing.
 use Prim.Native.Nat.{ℕ, _≤_, _<_, _-_}
-use mathlib.Core.Path.{_≡_, refl, sym, ap, _∙_}
+use mathlib.Core.Path.{_≡_, refl, ap, _∙_}
 use mathlib.Core.List.{map, map-append}
 use native.Mathlib.Omega.{arith}
 use native.Mathlib.Numerals.{add-one}
 use borrow.Author.Needs.{needs}
 use lib.IntN.{pos}
-use lib.ListN.{length, take, set, length-set, length-take}
+use lib.ListN.{length, take, length-set, length-take}
 use lib.Seq.{take-all, take-suc, take-suc-set}
 use Rattle.config.specs.Estimate.{distances, intervalBits}
 use Rattle.config.proofs.Distances.{length-distances}

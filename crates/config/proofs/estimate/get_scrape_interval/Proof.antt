@@ -1,6 +1,6 @@
 -- `estimate::get_scrape_interval` meets its contract: the quantile is taken of the first intervals, read back from their patterns.
 -- Assumes nothing.
-use Prim.Native.Nat.{ℕ, _^_, _≤_, _<_}
+use Prim.Native.Nat.{_≤_}
 use mathlib.Core.Path.{_≡_, refl, sym, ap, _∙_}
 use mathlib.Core.Bool.{false, false≢true}
 use mathlib.Core.List.{List, [], _∷_, map}

@@ -1,6 +1,5 @@
 -- `reach::adjusted_window` meets its contract, case by case.
 -- Assumes nothing.
-use mathlib.Core.Path.{ap, _∙_}
 use borrow.Author.Needs.{needs}
 use borrow.Author.Tests.{lt-ltb, le-ltb}
 use Rattle.config.specs.Reach.{windowOf}

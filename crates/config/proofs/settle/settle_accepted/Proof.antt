@@ -1,6 +1,5 @@
 -- `settle::settle_accepted` meets its contract: each call's answer is the definition's of the answers before, and accepted settings fit the casts.
 -- Assumes nothing.
-use Prim.Native.Nat.{ℕ, _^_, _≤_, _<_}
 use mathlib.Core.Path.{_≡_}
 use mathlib.Core.List.{List}
 use native.Mathlib.Omega.{arith}
@@ -15,7 +14,7 @@ use Rattle.config.specs.declared.settings.RollupConfig.{RollupConfig}
 use Rattle.config.specs.Settle.{settledReach, settledWindow}
 use Rattle.config.proofs.Distances.{not-falling, within}
 use Rattle.config.proofs.Estimates.{estimate-small}
-use Rattle.config.proofs.Limits.{Settleable, reach-in, window-in}
+use Rattle.config.proofs.Limits.{reach-in, window-in}
 use Rattle.config.proofs.Passed.{Passed, up-to-fits, castable, settings-passed}
 use Rattle.config.proofs.settle.settle_accepted.Statement.{statement}
 use Rattle.config.proofs.settle.settle_accepted.Tie as tie

@@ -1,6 +1,6 @@
 -- `settle::settle_settings` meets its contract: it goes through rows 6 to 11 and settles what they let pass.
 -- Assumes nothing.
-use mathlib.Core.Path.{_≡_, sym, _∙_}
+use mathlib.Core.Path.{sym, _∙_}
 use borrow.Author.Needs.{needs}
 use Rattle.config.proofs.settle.settle_settings.Statement.{statement}
 use Rattle.config.proofs.settle.settle_settings.Tie as tie
