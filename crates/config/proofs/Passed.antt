@@ -2,10 +2,10 @@
 -- Assumes nothing.
 use Prim.Native.Nat.{ℕ, zero, suc, _≤_}
 use native.Mathlib.Omega.{arith}
-use mathlib.Core.Path.{_≡_, refl, sym, subst, _∙_}
+use mathlib.Core.Path.{_≡_, refl, subst}
 use mathlib.Core.Bool.{Bool, true, false, _||_, false≢true}
 use mathlib.Core.List.{List, [], _∷_}
-use borrow.Author.Tests.{leb-true, not-false}
+use borrow.Author.Tests.{leb-true}
 use lib.IntN.{ℤ, pos, negsuc, negℤ, natAbs}
 use lib.Dec.{T}
 use lib.Signed.{ltZ, leZ, nonNeg}
@@ -15,7 +15,7 @@ use mir.Facts.{toZ-ofZ}
 use Rattle.times.specs.Milli.{timeLimit, Within}
 use Rattle.times.specs.Grid.{Spans}
 use Rattle.times.proofs.Milli.{within-fits}
-use Rattle.times.proofs.Order.{lt-not-le}
+use Rattle.times.proofs.Order.{not-below}
 use Rattle.series.specs.Refusals.{firstOf}
 use Rattle.series.specs.declared.refusal.Refusal.the-variants.{StepOutside, SpanOutside, WindowOutside, SettingOutside}
 use Rattle.series.specs.declared.refusal.Checked.{Checked}
@@ -56,9 +56,6 @@ or-false true b e = absurd (let z : _≡_ {A = ℕ} 0 1 = cc in omega arith)
 or-false false b e = (refl, e)
 
 -- ---- ranges
-
-not-below : (a b : ℤ) → ltZ a b ≡ false → leZ b a ≡ true
-not-below a b e = not-false (leZ b a) (sym (lt-not-le a b) ∙ e)
 
 pub inside : (lo hi x : ℤ) → outside lo hi x ≡ false → (leZ lo x ≡ true) × (leZ x hi ≡ true)
 unfolding outside
