@@ -64,18 +64,4 @@ returns-3 c =
 pub settled-run-spec : {M : Type 1} → statement M
 settled-run-spec =
     tie.close
-    (tie.spec
-    (λ c κs. search needs)
-    (λ c. search needs)
-    returns
-    (λ c. search needs)
-    (λ c κs. search needs)
-    (λ c. search needs)
-    returns-2
-    (λ c. search needs)
-    settled-course-requires
-    execute-within-requires
-    (λ c. search needs)
-    (λ c. search needs)
-    (λ c. search needs)
-    returns-3)
+    (tie.spec (λ c κs. search needs) (λ c. search needs) returns (λ c. search needs) (λ c κs. search needs) (λ c. search needs) returns-2 (λ c. search needs) settled-course-requires execute-within-requires (λ c. search needs) (λ c. search needs) (λ c. search needs) returns-3)

@@ -9,37 +9,10 @@ use Rattle.harzoulin.proofs.Settings.{same-settled-config}
 use Rattle.harzoulin.proofs.runs.harzoulin_settled_run.Statement.{statement}
 use Rattle.harzoulin.proofs.runs.harzoulin_settled_run.Tie as tie
 
-choose-requires : tie.Need-choose-requires
-choose-requires c κs = search needs
-
-enum-known-choice : tie.Need-enum-known-choice
-enum-known-choice c = search needs
-
-enum-told : tie.Need-enum-told
-enum-told c = search needs
-
-refuse-requires : tie.Need-refuse-requires
-refuse-requires c κs = search needs
-
 returns : tie.Need-returns
 returns c =
     let e = sym (c .before .before .before .before .choose .ensures) ∙ c .before .before .enum-told .given .1 in
     rw e (cc (c .refuse .ensures .0, c .refuse .ensures .1))
-
-settled-run-requires : tie.Need-settled-run-requires
-settled-run-requires c κs = search needs
-
-reply-requires : tie.Need-reply-requires
-reply-requires c κs = search needs
-
-same-length : tie.Need-same-length
-same-length c = search needs
-
-same-length-2 : tie.Need-same-length-2
-same-length-2 c = search needs
-
-same-length-3 : tie.Need-same-length-3
-same-length-3 c = search needs
 
 returns-2 : tie.Need-returns-2
 returns-2 c =
@@ -56,15 +29,4 @@ returns-2 c =
 pub harzoulin-settled-run-spec : {M : Type 1} → statement M
 harzoulin-settled-run-spec =
     tie.close
-    (tie.spec
-    choose-requires
-    enum-known-choice
-    enum-told
-    refuse-requires
-    returns
-    settled-run-requires
-    reply-requires
-    same-length
-    same-length-2
-    same-length-3
-    returns-2)
+    (tie.spec (λ c κs. search needs) (λ c. search needs) (λ c. search needs) (λ c κs. search needs) returns (λ c κs. search needs) (λ c κs. search needs) (λ c. search needs) (λ c. search needs) (λ c. search needs) returns-2)
