@@ -7,9 +7,9 @@ use mathlib.Core.Bool.{Bool, true, false, cond}
 use mathlib.Core.List.{List, [], _∷_}
 use borrow.Author.Tests.{leb-true, ltb-true, le-ltb}
 use lib.Dec.{leb, ltb}
-use lib.IntN.{ℤ, pos, negsuc, natAbs}
-use lib.Signed.{leZ}
+use lib.IntN.{ℤ, pos, natAbs}
 use Rattle.times.specs.Milli.{timeLimit}
+use Rattle.times.proofs.GridLaws.{step-some}
 use Rattle.times.proofs.Order.{by-test}
 use Rattle.series.specs.Answers.{Reply, gives, replyOf}
 use Rattle.series.specs.Refusals.{firstOf}
@@ -68,10 +68,6 @@ window-settleable window step adjust default lookback reach w s h =
     implied true n k = capped-settleable lookback n k
     implied false n k = k
 
-positive : (x : ℤ) → leZ (pos 1) x ≡ true → 0 < natAbs x
-positive (pos n) e = leb-true 1 n e
-positive (negsuc n) e = omega arith
-
 -- ---- accepted times and settings
 
 module _ (ts : List ℤ) (rc : RollupConfig) (times : timesChecked ts ≡ Accepted) (settings : settingsChecked rc ≡ Accepted) where
@@ -85,7 +81,7 @@ module _ (ts : List ℤ) (rc : RollupConfig) (times : timesChecked ts ≡ Accept
   unfolding settledWindow
   window-in =
       let p = settings-passed rc settings in
-      window-settleable (natAbs (rc .window)) (natAbs (rc .step)) _ _ _ _ (p .window .small) (record { some = positive (rc .step) (p .spans .step-positive); small = omega (arith, p .step .small) }) reach-in
+      window-settleable (natAbs (rc .window)) (natAbs (rc .step)) _ _ _ _ (p .window .small) (record { some = step-some (rc .step) (p .spans .step-positive); small = omega (arith, p .step .small) }) reach-in
 
 -- ---- the law
 

@@ -51,7 +51,7 @@ two-rows Accepted Accepted rows = refl
 two-rows Accepted (Refused r) rows = refl
 two-rows (Refused r) b rows = refl
 
-or-false : (a b : Bool) → (a || b) ≡ false → (a ≡ false) × (b ≡ false)
+pub or-false : (a b : Bool) → (a || b) ≡ false → (a ≡ false) × (b ≡ false)
 or-false true b e = absurd (let z : _≡_ {A = ℕ} 0 1 = cc in omega arith)
 or-false false b e = (refl, e)
 
@@ -63,13 +63,9 @@ inside lo hi x e =
     let both = or-false (ltZ x lo) (ltZ hi x) e in
     (not-below x lo (both .0), not-below hi x (both .1))
 
-up-to : (k : ℕ) (x : ℤ) → outside (pos 0) (pos k) x ≡ false → UpTo k x
-up-to k (pos n) e = record { whole = refl; small = leb-true n k (inside (pos 0) (pos k) (pos n) e .1) }
-up-to k (negsuc n) e = absurd (false≢true (inside (pos 0) (pos k) (negsuc n) e .0))
-
-positive : (k : ℕ) (x : ℤ) → outside (pos 1) (pos k) x ≡ false → UpTo k x
-positive k (pos n) e = record { whole = refl; small = leb-true n k (inside (pos 1) (pos k) (pos n) e .1) }
-positive k (negsuc n) e = absurd (false≢true (inside (pos 1) (pos k) (negsuc n) e .0))
+pub up-to : (lo k : ℕ) (x : ℤ) → outside (pos lo) (pos k) x ≡ false → UpTo k x
+up-to lo k (pos n) e = record { whole = refl; small = leb-true n k (inside (pos lo) (pos k) (pos n) e .1) }
+up-to lo k (negsuc n) e = absurd (false≢true (inside (pos lo) (pos k) (negsuc n) e .0))
 
 either : (k : ℕ) (x : ℤ) → outside (negℤ (pos k)) (pos k) x ≡ false → Within k x
 either k (pos n) e = record { size = leb-true n k (inside (negℤ (pos k)) (pos k) (pos n) e .1) }
@@ -95,7 +91,7 @@ spans start end step six seven =
       end-within = either timeLimit end (each .1);
       ordered = not-below end start (ends .1);
       step-positive = inside (pos 1) (pos timeLimit) step six .0;
-      step-within = record { size = positive timeLimit step six .small };
+      step-within = record { size = up-to 1 timeLimit step six .small };
     }
 
 pub span-passed : (start end step : ℤ) → spanChecked start end step ≡ Accepted → Spans start end step
@@ -117,11 +113,11 @@ module _ (rc : RollupConfig) where
       let two = or-false lookback staleness (three .0) in
       record {
         spans = spans (rc .start) (rc .end) (rc .step) (fails _ StepOutside (each .0)) (fails _ SpanOutside (each .1 .0));
-        step = positive timeLimit (rc .step) (fails _ StepOutside (each .0));
-        window = up-to timeLimit (rc .window) (fails _ WindowOutside (each .1 .1 .0));
-        lookback = up-to timeLimit (rc .«lookback_delta») (two .0);
-        staleness = up-to timeLimit (rc .«min_staleness_interval») (two .1);
-        limit = up-to timeLimit (rc .«max_points_per_series») (three .1);
+        step = up-to 1 timeLimit (rc .step) (fails _ StepOutside (each .0));
+        window = up-to 0 timeLimit (rc .window) (fails _ WindowOutside (each .1 .1 .0));
+        lookback = up-to 0 timeLimit (rc .«lookback_delta») (two .0);
+        staleness = up-to 0 timeLimit (rc .«min_staleness_interval») (two .1);
+        limit = up-to 0 timeLimit (rc .«max_points_per_series») (three .1);
       }
 
   pub settings-passed : settingsChecked rc ≡ Accepted → Passed rc
