@@ -16,7 +16,7 @@ use Rattle.config.specs.Rows.{maxPoints, outside, row6, row7, row11, settledRow
 use Rattle.run.proofs.Passed.{run-sound, settled-sound}
 use Rattle.run.specs.Run.{Lent, Plan, lentChecked, planned, row12, row14, settledChecked, slicesChecked}
 use Rattle.config.specs.declared.settings.SettledConfig.{SettledConfig}
-use Rattle.series.specs.Refusals.{firstOf, refusedIf}
+use Rattle.series.specs.Refusals.{firstRefusal, refusedIf}
 use Rattle.series.specs.Rows.{row1, row5, row13, seriesChecked, timesChecked}
 use Rattle.series.specs.declared.refusal.Checked.{Checked}
 use Rattle.series.specs.declared.refusal.Checked.the-variants.{Accepted, Refused}
@@ -87,7 +87,7 @@ refused-not e = let clash : _≡_ {A = ℕ} 0 1 = cc in omega arith
 
 -- where the others accept
 slices-only : (x y : Checked) (d p w : Bool) (q : Plan) (l : Lent) → x ≡ Accepted → y ≡ Accepted
-    → OnlySlices (planned (firstOf (x ∷ y ∷ firstOf (refusedIf d OutputShort ∷ refusedIf p PreparedShort ∷ refusedIf w WorkShort ∷ []) ∷ [])) q l .answer)
+    → OnlySlices (planned (firstRefusal (x ∷ y ∷ firstRefusal (refusedIf d OutputShort ∷ refusedIf p PreparedShort ∷ refusedIf w WorkShort ∷ []) ∷ [])) q l .answer)
 slices-only (Refused r) y d p w q l e f = absurd (refused-not e)
 slices-only Accepted (Refused r) d p w q l e f = absurd (refused-not f)
 slices-only Accepted Accepted true p w q l e f = inr (omega arith, omega arith)
@@ -95,7 +95,7 @@ slices-only Accepted Accepted false true w q l e f = inr (omega arith, omega ari
 slices-only Accepted Accepted false false true q l e f = inr (omega arith, omega arith)
 slices-only Accepted Accepted false false false q l e f = inl refl
 
-all-accepted : (rows : List Checked) → AllAccept rows → firstOf rows ≡ Accepted
+all-accepted : (rows : List Checked) → AllAccept rows → firstRefusal rows ≡ Accepted
 all-accepted [] a = refl
 all-accepted (r ∷ rows) a = rw (a .0) (all-accepted rows (a .1))
 

@@ -12,7 +12,7 @@ use Rattle.times.specs.Milli.{timeLimit}
 use Rattle.times.proofs.GridLaws.{step-some}
 use Rattle.times.proofs.Order.{by-test}
 use Rattle.series.specs.Answers.{Reply, gives, replyOf}
-use Rattle.series.specs.Refusals.{firstOf}
+use Rattle.series.specs.Refusals.{firstRefusal}
 use Rattle.series.specs.Rows.{timesChecked}
 use Rattle.series.specs.declared.refusal.Checked.{Checked}
 use Rattle.series.specs.declared.refusal.Checked.the-variants.{Accepted, Refused}
@@ -85,9 +85,9 @@ module _ (ts : List ℤ) (rc : RollupConfig) (times : timesChecked ts ≡ Accept
 
 -- ---- the law
 
-inside : (n : ℕ) → Settleable n → outside (pos 1) (pos settledLimit) (pos n) ≡ false
+settleable-passes : (n : ℕ) → Settleable n → outside (pos 1) (pos settledLimit) (pos n) ≡ false
 unfolding outside
-inside n h = rw (le-ltb n 1 (h .some), le-ltb settledLimit n (h .small))
+settleable-passes n h = rw (le-ltb n 1 (h .some), le-ltb settledLimit n (h .small))
 
 given : {A : Type 0} (c : Checked) (x y : A) → replyOf c x ≡ gives y → (c ≡ Accepted) × (x ≡ y)
 given {A} Accepted x y e = (refl, cc (ap (λ (a : Reply A). a .values) e))
@@ -97,8 +97,8 @@ given {A} (Refused r) x y e = absurd (let clash : _≡_ {A = ℕ} 0 1 = cc (ap (
 pub settled-in-range : (ts : List ℤ) (rc : RollupConfig) (s : Settlement) → settleOf ts rc ≡ gives s → settledRow8 (s .window) (s .reach) ≡ Accepted
 unfolding settleOf settledOutside
 settled-in-range ts rc s e =
-    let both = given (firstOf (timesChecked ts ∷ settingsChecked rc ∷ [])) (settlement ts rc) s e in
+    let both = given (firstRefusal (timesChecked ts ∷ settingsChecked rc ∷ [])) (settlement ts rc) s e in
     let rows = all-accept (timesChecked ts ∷ settingsChecked rc ∷ []) (both .0) in
     let window : s .window ≡ pos (settledWindow ts rc) = cc (both .1) in
     let reach : s .reach ≡ pos (settledReach ts rc) = cc (both .1) in
-    rw (window, reach, inside (settledWindow ts rc) (window-in ts rc (rows .0) (rows .1 .0)), inside (settledReach ts rc) (reach-in ts rc (rows .0) (rows .1 .0)))
+    rw (window, reach, settleable-passes (settledWindow ts rc) (window-in ts rc (rows .0) (rows .1 .0)), settleable-passes (settledReach ts rc) (reach-in ts rc (rows .0) (rows .1 .0)))

@@ -16,7 +16,7 @@ use Rattle.times.specs.Milli.{timeLimit, Within}
 use Rattle.times.specs.Grid.{Spans}
 use Rattle.times.proofs.Milli.{within-fits}
 use Rattle.times.proofs.Order.{not-below}
-use Rattle.series.specs.Refusals.{firstOf}
+use Rattle.series.specs.Refusals.{firstRefusal}
 use Rattle.series.specs.declared.refusal.Refusal.the-variants.{StepOutside, SpanOutside, WindowOutside, SettingOutside}
 use Rattle.series.specs.declared.refusal.Checked.{Checked}
 use Rattle.series.specs.declared.refusal.Checked.the-variants.{Accepted, Refused}
@@ -41,12 +41,12 @@ pub record Passed (rc : RollupConfig) : Type 0 where
 
 -- ---- rows that accept
 
-pub last-row : (row : Checked) → firstOf (row ∷ []) ≡ row
+pub last-row : (row : Checked) → firstRefusal (row ∷ []) ≡ row
 last-row Accepted = refl
 last-row (Refused r) = refl
 
 -- the first two of a call's rows, taken together
-pub two-rows : (a b : Checked) (rows : List Checked) → firstOf (a ∷ b ∷ rows) ≡ firstOf (firstOf (a ∷ b ∷ []) ∷ rows)
+pub two-rows : (a b : Checked) (rows : List Checked) → firstRefusal (a ∷ b ∷ rows) ≡ firstRefusal (firstRefusal (a ∷ b ∷ []) ∷ rows)
 two-rows Accepted Accepted rows = refl
 two-rows Accepted (Refused r) rows = refl
 two-rows (Refused r) b rows = refl
@@ -57,20 +57,20 @@ or-false false b e = (refl, e)
 
 -- ---- ranges
 
-pub inside : (lo hi x : ℤ) → outside lo hi x ≡ false → (leZ lo x ≡ true) × (leZ x hi ≡ true)
+pub not-outside : (lo hi x : ℤ) → outside lo hi x ≡ false → (leZ lo x ≡ true) × (leZ x hi ≡ true)
 unfolding outside
-inside lo hi x e =
+not-outside lo hi x e =
     let both = or-false (ltZ x lo) (ltZ hi x) e in
     (not-below x lo (both .0), not-below hi x (both .1))
 
 pub up-to : (lo k : ℕ) (x : ℤ) → outside (pos lo) (pos k) x ≡ false → UpTo k x
-up-to lo k (pos n) e = record { whole = refl; small = leb-true n k (inside (pos lo) (pos k) (pos n) e .1) }
-up-to lo k (negsuc n) e = absurd (false≢true (inside (pos lo) (pos k) (negsuc n) e .0))
+up-to lo k (pos n) e = record { whole = refl; small = leb-true n k (not-outside (pos lo) (pos k) (pos n) e .1) }
+up-to lo k (negsuc n) e = absurd (false≢true (not-outside (pos lo) (pos k) (negsuc n) e .0))
 
 either : (k : ℕ) (x : ℤ) → outside (negℤ (pos k)) (pos k) x ≡ false → Within k x
-either k (pos n) e = record { size = leb-true n k (inside (negℤ (pos k)) (pos k) (pos n) e .1) }
-either zero (negsuc n) e = absurd (false≢true (inside (pos 0) (pos 0) (negsuc n) e .0))
-either (suc k) (negsuc n) e = record { size = omega (arith, leb-true n k (inside (negsuc k) (pos (suc k)) (negsuc n) e .0)) }
+either k (pos n) e = record { size = leb-true n k (not-outside (negℤ (pos k)) (pos k) (pos n) e .1) }
+either zero (negsuc n) e = absurd (false≢true (not-outside (pos 0) (pos 0) (negsuc n) e .0))
+either (suc k) (negsuc n) e = record { size = omega (arith, leb-true n k (not-outside (negsuc k) (pos (suc k)) (negsuc n) e .0)) }
 
 -- such a number is an `i64`, and a `u64` too
 pub up-to-fits : {x : ℤ} → UpTo timeLimit x → SFits w64 x
@@ -90,7 +90,7 @@ spans start end step six seven =
       start-within = either timeLimit start (each .0);
       end-within = either timeLimit end (each .1);
       ordered = not-below end start (ends .1);
-      step-positive = inside (pos 1) (pos timeLimit) step six .0;
+      step-positive = not-outside (pos 1) (pos timeLimit) step six .0;
       step-within = record { size = up-to 1 timeLimit step six .small };
     }
 

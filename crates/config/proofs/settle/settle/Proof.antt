@@ -4,7 +4,7 @@ use mathlib.Core.List.{[], _∷_}
 use mathlib.Core.Path.{_≡_, sym, ap, _∙_}
 use borrow.Author.Needs.{needs}
 use Rattle.series.specs.Answers.{replyOf}
-use Rattle.series.specs.Refusals.{firstOf}
+use Rattle.series.specs.Refusals.{firstRefusal}
 use Rattle.series.specs.declared.refusal.Checked.{Checked}
 use Rattle.config.specs.Rows.{settingsChecked}
 use Rattle.config.specs.Settle.{settlement, settleOf}
@@ -24,7 +24,7 @@ unfolding settleOf
 returns-2 c =
     let t = c .before in
     let s = t .before .before .before in
-    let last : settingsChecked (s .args .rc) ≡ firstOf (settingsChecked (s .args .rc) ∷ []) = sym (last-row (settingsChecked (s .args .rc))) in
+    let last : settingsChecked (s .args .rc) ≡ firstRefusal (settingsChecked (s .args .rc) ∷ []) = sym (last-row (settingsChecked (s .args .rc))) in
     rw (← t .before .before .check-times .ensures, t .enum-told .given .1)
     (c .settle-settings .ensures ∙ ap (λ (x : Checked). replyOf x (settlement (s .args .timestamps .now) (s .args .rc))) last)
 
