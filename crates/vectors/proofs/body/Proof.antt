@@ -6,16 +6,17 @@ use native.Mathlib.Omega.{arith}
 use native.Mathlib.Numerals.{add-one}
 use borrow.Author.Needs.{needs}
 use borrow.Author.Tests.{eq-eqb, ne-eqb}
+use mathlib.Core.Bool.{cond}
 use mathlib.Core.List.{List}
 use lib.Dec.{eqb}
 use lib.ListN.{length, drop, getD}
 use lib.Seq.{drop-cons, drop-length}
-use Rattle.vectors.specs.Words.{bodyOf, pick}
+use Rattle.vectors.specs.Words.{bodyOf}
 use Rattle.vectors.proofs.body.Statement.{statement}
 use Rattle.vectors.proofs.body.Tie as tie
 
 -- a line from byte i on, by the byte at i
-from : (s : List ℕ) (i : ℕ) → i < length s → bodyOf (drop i s) ≡ pick (eqb (getD s i 0) 10) 1 (suc (bodyOf (drop (suc i) s)))
+from : (s : List ℕ) (i : ℕ) → i < length s → bodyOf (drop i s) ≡ cond (eqb (getD s i 0) 10) 1 (suc (bodyOf (drop (suc i) s)))
 unfolding bodyOf
 from s i h = rw (drop-cons s i 0 h)
 
