@@ -14,12 +14,16 @@ use mir.Facts.{toZ-ofZ}
 use Rattle.times.specs.Milli.{Within}
 use Rattle.times.proofs.Order.{by-test}
 
--- what the machine reads back from the bits of an `i64` is the number
-pub read-back : (t : ℤ) → mag t < 2 ^ 63 → toZ w64 (ofZ w64 t) ≡ t
+-- what the machine reads back from the bits of an `i64`
+abbrev pub readBack : ℤ → ℤ
+readBack t = toZ w64 (ofZ w64 t)
+
+-- is the number
+pub read-back : (t : ℤ) → mag t < 2 ^ 63 → readBack t ≡ t
 read-back t h = toZ-ofZ (record { sfits = h })
 
 -- so a test on what it reads back is the test on the numbers
-pub read : {a b : ℤ} → SFits w64 a → SFits w64 b → (test : ℤ → ℤ → Bool) → test (toZ w64 (ofZ w64 a)) (toZ w64 (ofZ w64 b)) ≡ test a b
+pub read : {a b : ℤ} → SFits w64 a → SFits w64 b → (test : ℤ → ℤ → Bool) → test (readBack a) (readBack b) ≡ test a b
 read f g test = ap₂ test (toZ-ofZ f) (toZ-ofZ g)
 
 -- ---- limits
