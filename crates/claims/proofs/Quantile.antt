@@ -21,6 +21,7 @@ use Rattle.ieee.specs.Value.{floorOf, negative}
 use Rattle.ieee.proofs.Exact.{count-exact, value-number}
 use Rattle.ieee.proofs.Order.{eq-rank, lt-rank}
 use Rattle.ieee.proofs.Patterns.{same-if-number}
+use Rattle.config.proofs.Estimates.{all-kept}
 use Rattle.math.specs.Order.{lessOf}
 use Rattle.math.specs.Quantile.{atRank, between, medianOf, quantileOf, quantileSorted, rankOf}
 use Rattle.math.specs.Sort.{All}
@@ -30,7 +31,7 @@ use Rattle.math.proofs.Exact.{Whole, difference-of-equals, plus-zero, product, 
 use Rattle.math.proofs.Filling.{kept-numbers}
 use Rattle.math.proofs.Keys.{Keyed, all-keyed, keyed-sorted}
 use Rattle.math.proofs.Sorted.{InOrder, sorted-in-order, sorted-permutes}
-use Rattle.math.proofs.Sorting.{all-at, all-sort, cases}
+use Rattle.math.proofs.Sorting.{all-at, all-sort}
 use Rattle.claims.specs.Quantile.{Finite, Greatest, Least, Middle, WholeRank, before, nth, one, ordered, size, zeroOf}
 
 -- ---- two values at weight 0
@@ -70,11 +71,6 @@ at-rank r ys k w = opened ∙ rw (w .floor, w .index, next-index k (length ys - 
     opened = unfold atRank in refl
 
 -- ---- the values in order
-
-all-kept : (P : Float → Type 0) (xs : List Float) → All P xs → All P (kept xs)
-unfolding kept
-all-kept P [] a = tt
-all-kept P (x ∷ xs) a = cases (isNan x) (λ e. rw e (all-kept P xs (a .1))) (λ e. rw e (a .0, all-kept P xs (a .1)))
 
 all-floats : (bs : List ℕ) → All (λ x. T (fits binary64 x)) (floats bs)
 all-floats [] = tt

@@ -17,12 +17,12 @@ use lib.Ieee.Positive.{num, den, den-pos, through}
 use lib.ListN.{length, getD, take, length-take, length-map}
 use Rattle.ieee.specs.Value.{floorOf}
 use Rattle.math.specs.Values.{kept}
-use Rattle.math.specs.Sort.{All, insertBy, sortBy}
+use Rattle.math.specs.Sort.{All}
 use Rattle.math.specs.Order.{sorted}
 use Rattle.math.specs.declared.sort.Order.the-variants.{Partial}
 use Rattle.math.specs.Quantile.{between, atRank, rankOf, quantileSorted, quantileOf}
 use Rattle.math.proofs.Filling.{length-kept}
-use Rattle.math.proofs.Sorting.{all-at, all-sort, all-take}
+use Rattle.math.proofs.Sorting.{all-at, all-sort, all-take, length-sort}
 use Rattle.times.specs.Milli.{timeLimit, Within}
 use Rattle.times.specs.Later.{NotFalling}
 use Rattle.times.proofs.Order.{offset-of}
@@ -99,20 +99,10 @@ between-longest w x y t h k =
 
 -- ---- sorted values
 
-all-kept : (P : Float → Type 0) (xs : List Float) → All P xs → All P (kept xs)
+pub all-kept : (P : Float → Type 0) (xs : List Float) → All P xs → All P (kept xs)
 unfolding kept
 all-kept P [] a = tt
 all-kept P (x ∷ xs) a = by-test (isNan x) (λ e. rw e (all-kept P xs (a .1))) (λ e. rw e (a .0, all-kept P xs (a .1)))
-
-length-insert : (less : Float → Float → Bool) (x : Float) (ys : List Float) → length (insertBy less x ys) ≡ suc (length ys)
-unfolding insertBy
-length-insert less x [] = refl
-length-insert less x (y ∷ ys) = by-test (less y x) (λ e. rw e (omega (arith, length-insert less x ys))) (λ e. rw e)
-
-length-sort : (less : Float → Float → Bool) (xs : List Float) → length (sortBy less xs) ≡ length xs
-unfolding sortBy
-length-sort less [] = refl
-length-sort less (x ∷ xs) = omega (arith, length-insert less x (sortBy less xs), length-sort less xs)
 
 rank-longest : (xs : List Float) → 0 < length xs → length xs ≤ 20 → All (λ x. Below x longest) xs → Below (atRank (rankOf phi (length xs)) xs) longest
 unfolding atRank weight
