@@ -41,21 +41,21 @@ endOf (run rc) = rc .end
 endOf (settled sc) = sc .end
 
 -- what the rows on settings leave of an accepted call
-record Sound (s : Settings) (p : Plan) : Type 0 where
+record SoundCall (s : Settings) (p : Plan) : Type 0 where
   span : Spans (startOf s) (endOf s) (stepOf s)
   grid : p .outputs ≡ gridFrom (startOf s) (stepOf s) (gridSize (startOf s) (endOf s) (stepOf s))
   eight : settledRow8 (p .window) (p .reach) ≡ Accepted
   nine : settledRow9 (p .per-call) ≡ Accepted
   few : gridSize (startOf s) (endOf s) (stepOf s) ≤ maxPoints
 
-sound : (c : Call) → checked c ≡ Accepted → Sound (c .settings) (plan c)
+sound : (c : Call) → checked c ≡ Accepted → SoundCall (c .settings) (plan c)
 unfolding seriesChecked
 sound c ok = go (c .settings) (rows-accept c ok .1 .0)
   where
     times : timesChecked (c .times) ≡ Accepted
     times = all-accept (row1 (c .times) (c .values) ∷ timesChecked (c .times) ∷ row5 (c .values) ∷ []) (rows-accept c ok .0) .1 .0
 
-    go : (s : Settings) → settingsRows s ≡ Accepted → Sound s (planBy c s)
+    go : (s : Settings) → settingsRows s ≡ Accepted → SoundCall s (planBy c s)
     go (run rc) e = let r = run-sound (c .times) rc times e in record { span = r .span; grid = refl; eight = r .eight; nine = r .nine; few = r .few }
     go (settled sc) e = let r = settled-sound sc e in record { span = r .span; grid = refl; eight = r .eight; nine = r .nine; few = r .few }
 
