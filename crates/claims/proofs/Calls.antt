@@ -8,7 +8,7 @@ use lib.ListN.{length, length-map}
 use lib.Ieee.{binary64, ofBits, toBits}
 use Rattle.config.specs.Rows.{settingsChecked, settledSettings}
 use Rattle.ieee.specs.Patterns.{floats, patterns}
-use Rattle.series.specs.Refusals.{firstOf}
+use Rattle.series.specs.Refusals.{firstRefusal}
 use Rattle.series.specs.Rows.{seriesChecked}
 use Rattle.series.specs.Steps.{preparedOf}
 use Rattle.series.specs.declared.refusal.Checked.{Checked}
@@ -35,11 +35,11 @@ abbrev rowsBy : Call → Settings → List Checked
 rowsBy c s = seriesChecked (c .times) (c .values) ∷ settingsRows s ∷ lentChecked (length (c .values)) (points s) (c .lent) ∷ []
 
 module _ (c : Call) where
-  checked-is : checked c ≡ firstOf (rowsBy c (c .settings))
+  checked-is : checked c ≡ firstRefusal (rowsBy c (c .settings))
   unfolding runChecked settledChecked
   checked-is = go (c .settings)
     where
-      go : (s : Settings) → checkedBy c s ≡ firstOf (rowsBy c s)
+      go : (s : Settings) → checkedBy c s ≡ firstRefusal (rowsBy c s)
       go (run rc) = refl
       go (settled sc) = refl
 

@@ -14,16 +14,15 @@ use lib.ListN.{length, take, drop, getD, length-take, length-drop}
 use lib.Signed.{leZ}
 use Rattle.config.specs.Rows.{maxPoints, outside, row6, row7, row11, settledRow8, settledRow9, settledSettings, spanOutside}
 use Rattle.run.proofs.Passed.{run-sound, settled-sound}
-use Rattle.run.specs.Run.{Lent, Plan, lentChecked, planned, row12, row14, runPlan, settledChecked, settledPlan, slicesChecked}
+use Rattle.run.specs.Run.{Lent, Plan, lentChecked, planned, row12, row14, settledChecked, slicesChecked}
 use Rattle.config.specs.declared.settings.SettledConfig.{SettledConfig}
-use Rattle.series.specs.Refusals.{firstOf, refusedIf}
+use Rattle.series.specs.Refusals.{firstRefusal, refusedIf}
 use Rattle.series.specs.Rows.{row1, row5, row13, seriesChecked, timesChecked}
 use Rattle.series.specs.declared.refusal.Checked.{Checked}
 use Rattle.series.specs.declared.refusal.Checked.the-variants.{Accepted, Refused}
 use Rattle.series.specs.declared.refusal.Refusal.{Refusal}
-use Rattle.series.specs.declared.refusal.Refusal.the-variants.{OutputShort, PreparedShort, SpanOutside, StepOutside, WorkShort}
-use Rattle.series.specs.declared.steps.PreFunction.{PreFunction}
-use Rattle.series.proofs.Accepted.{AllAccept, all-accept, fails}
+use Rattle.series.specs.declared.refusal.Refusal.the-variants.{OutputShort, PreparedShort, WorkShort}
+use Rattle.series.proofs.Accepted.{AllAccept, all-accept}
 use Rattle.times.specs.Grid.{Spans, gridFrom, gridSize, timeAt}
 use Rattle.times.specs.Milli.{timeLimit, Within}
 use Rattle.times.proofs.GridLaws.{grid-at, grid-cut, grid-length, spans-cut}
@@ -42,21 +41,21 @@ endOf (run rc) = rc .end
 endOf (settled sc) = sc .end
 
 -- what the rows on settings leave of an accepted call
-record Sound (s : Settings) (p : Plan) : Type 0 where
+record SoundCall (s : Settings) (p : Plan) : Type 0 where
   span : Spans (startOf s) (endOf s) (stepOf s)
   grid : p .outputs ≡ gridFrom (startOf s) (stepOf s) (gridSize (startOf s) (endOf s) (stepOf s))
   eight : settledRow8 (p .window) (p .reach) ≡ Accepted
   nine : settledRow9 (p .per-call) ≡ Accepted
   few : gridSize (startOf s) (endOf s) (stepOf s) ≤ maxPoints
 
-sound : (c : Call) → checked c ≡ Accepted → Sound (c .settings) (plan c)
+sound : (c : Call) → checked c ≡ Accepted → SoundCall (c .settings) (plan c)
 unfolding seriesChecked
 sound c ok = go (c .settings) (rows-accept c ok .1 .0)
   where
     times : timesChecked (c .times) ≡ Accepted
     times = all-accept (row1 (c .times) (c .values) ∷ timesChecked (c .times) ∷ row5 (c .values) ∷ []) (rows-accept c ok .0) .1 .0
 
-    go : (s : Settings) → settingsRows s ≡ Accepted → Sound s (planBy c s)
+    go : (s : Settings) → settingsRows s ≡ Accepted → SoundCall s (planBy c s)
     go (run rc) e = let r = run-sound (c .times) rc times e in record { span = r .span; grid = refl; eight = r .eight; nine = r .nine; few = r .few }
     go (settled sc) e = let r = settled-sound sc e in record { span = r .span; grid = refl; eight = r .eight; nine = r .nine; few = r .few }
 
@@ -88,7 +87,7 @@ refused-not e = let clash : _≡_ {A = ℕ} 0 1 = cc in omega arith
 
 -- where the others accept
 slices-only : (x y : Checked) (d p w : Bool) (q : Plan) (l : Lent) → x ≡ Accepted → y ≡ Accepted
-    → OnlySlices (planned (firstOf (x ∷ y ∷ firstOf (refusedIf d OutputShort ∷ refusedIf p PreparedShort ∷ refusedIf w WorkShort ∷ []) ∷ [])) q l .answer)
+    → OnlySlices (planned (firstRefusal (x ∷ y ∷ firstRefusal (refusedIf d OutputShort ∷ refusedIf p PreparedShort ∷ refusedIf w WorkShort ∷ []) ∷ [])) q l .answer)
 slices-only (Refused r) y d p w q l e f = absurd (refused-not e)
 slices-only Accepted (Refused r) d p w q l e f = absurd (refused-not f)
 slices-only Accepted Accepted true p w q l e f = inr (omega arith, omega arith)
@@ -96,7 +95,7 @@ slices-only Accepted Accepted false true w q l e f = inr (omega arith, omega ari
 slices-only Accepted Accepted false false true q l e f = inr (omega arith, omega arith)
 slices-only Accepted Accepted false false false q l e f = inl refl
 
-all-accepted : (rows : List Checked) → AllAccept rows → firstOf rows ≡ Accepted
+all-accepted : (rows : List Checked) → AllAccept rows → firstRefusal rows ≡ Accepted
 all-accepted [] a = refl
 all-accepted (r ∷ rows) a = rw (a .0) (all-accepted rows (a .1))
 

@@ -7,16 +7,17 @@ use Prim.Native.Nat.{ℕ, _*_, _<_}
 use lib.Dec.{T}
 use lib.IntN.{ℤ}
 use lib.Signed.{ltZ}
-use lib.Ieee.{Float, nan, binary64, fits, isNan, lt, ofBits, top}
+use lib.Ieee.{Float, nan, binary64, fits, isNan, ofBits, top}
 use lib.Ieee.Bits.{ofBits-fits, toBits-lt}
 use lib.Ieee.Fits.{add-fits, div-fits, inf-fits, sub-fits}
 use Rattle.ieee.specs.Patterns.{floats, patterns}
 use Rattle.series.specs.declared.steps.Counter.{Counter}
-use Rattle.series.specs.Steps.{counterAfter, deltas, deltasFrom, derivs, derivsFrom, intervalsFrom, lifted, preparedOf, resetsFrom, secondTwice, sloped, wholeSeconds}
+use Rattle.series.specs.Steps.{counterAfter, deltas, deltasFrom, derivs, derivsFrom, intervalsFrom, preparedOf, resetsFrom, secondTwice, sloped, wholeSeconds}
 use Rattle.series.specs.declared.steps.PreFunction.{PreFunction}
 use Rattle.series.specs.declared.steps.PreFunction.the-variants.{None, Resets, Delta, Deriv, Intervals}
 use Rattle.series.specs.declared.steps.Slope.{Slope}
 use Rattle.series.proofs.All.{All}
+use Rattle.series.proofs.Resets.{lifted-fits}
 use Rattle.times.proofs.Order.{by-test}
 use Rattle.run.specs.Record.{Reading, readings}
 use Rattle.claims.specs.Agree.{NoNan, Prepared}
@@ -28,10 +29,6 @@ floats-fit : (bs : List ℕ) → All Fits (floats bs)
 unfolding floats
 floats-fit [] = tt
 floats-fit (b ∷ bs) = (ofBits-fits binary64 b, floats-fit bs)
-
-lifted-fits : (p w : Float) → Fits p → Fits w → Fits (lifted p w)
-unfolding lifted
-lifted-fits p w f g = by-test (lt w p) (λ e. rw e f) (λ e. rw e g)
 
 resets-fit : (s : Counter) → Fits (s .output) → (vs : List Float) → All Fits (resetsFrom s vs)
 unfolding counterAfter resetsFrom

@@ -28,10 +28,10 @@ use Rattle.ieee.specs.Patterns.{floats}
 use Rattle.sort.specs.Values.{kept}
 use Rattle.sort.specs.declared.Order.the-variants.{Partial}
 use Rattle.math.proofs.Exact.{Whole, difference-of-equals, plus-zero, product, times-one, times-zero, whole, zero-times}
-use Rattle.sort.proofs.Kept.{kept-numbers}
+use Rattle.sort.proofs.Kept.{all-kept, kept-numbers}
 use Rattle.sort.proofs.Keys.{Keyed, all-keyed, keyed-sorted}
 use Rattle.sort.proofs.Sorted.{InOrder, sorted-in-order, sorted-permutes}
-use Rattle.sort.proofs.Sorting.{all-at, all-sort, cases}
+use Rattle.sort.proofs.Sorting.{all-at, all-sort}
 use Rattle.claims.specs.Quantile.{Finite, Greatest, Least, Middle, WholeRank, before, nth, one, ordered, size, zeroOf}
 
 -- ---- two values at weight 0
@@ -71,11 +71,6 @@ at-rank r ys k w = opened ∙ rw (w .floor, w .index, next-index k (length ys - 
     opened = unfold atRank in refl
 
 -- ---- the values in order
-
-all-kept : (P : Float → Type 0) (xs : List Float) → All P xs → All P (kept xs)
-unfolding kept
-all-kept P [] a = tt
-all-kept P (x ∷ xs) a = cases (isNan x) (λ e. rw e (all-kept P xs (a .1))) (λ e. rw e (a .0, all-kept P xs (a .1)))
 
 all-floats : (bs : List ℕ) → All (λ x. T (fits binary64 x)) (floats bs)
 unfolding floats

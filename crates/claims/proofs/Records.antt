@@ -23,7 +23,7 @@ use Rattle.series.proofs.Accepted.{fails}
 use Rattle.times.specs.Readings.{filter, consIf}
 use Rattle.times.proofs.Order.{le-trans, lt-not-le, sub-le}
 use Rattle.run.specs.Figures.{answer}
-use Rattle.run.specs.Record.{Reading, inside, before, after, lastOf, window, earlier, later, next, timeOf, bitsOf, valueOf, onlyIf, orNan, laterThan, reached, where-any, predecessor, Record, recordAt}
+use Rattle.run.specs.Record.{Reading, inside, before, after, lastIfAny, window, earlier, later, next, timeOf, bitsOf, valueOf, onlyIf, orNan, laterThan, reached, where-any, predecessor, Record, recordAt}
 use Rattle.claims.specs.Agree.{Agree, Bits, NoNan, Prepared, recordBits}
 use Rattle.claims.proofs.Prepared.{Number, Numbers, prepared-numbers}
 
@@ -44,8 +44,8 @@ head-number : (xs : List Reading) → Numbers xs → NumberIn (head? xs)
 head-number [] n = tt
 head-number (x ∷ xs) n = n .0
 
-last-number : (xs : List Reading) → Numbers xs → NumberIn (lastOf xs)
-unfolding lastOf
+last-number : (xs : List Reading) → Numbers xs → NumberIn (lastIfAny xs)
+unfolding lastIfAny
 last-number [] n = tt
 last-number (x ∷ []) n = n .0
 last-number (x ∷ y ∷ xs) n = last-number (y ∷ xs) (n .1)

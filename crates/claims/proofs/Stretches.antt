@@ -1,13 +1,13 @@
 -- Consecutive stretches of a grid, however it is split, are a cut: their output times joined are what is left of the grid from the first one on.
 -- Assumes nothing.
 use mathlib.Core.Path.{_≡_, refl, sym, ap, _∙_}
-use mathlib.Core.List.{List, [], _∷_, _++_}
+use mathlib.Core.List.{List, [], _∷_}
 use Prim.Native.Nat.{ℕ, _+_, _-_, _≤_, _<_}
 use native.Mathlib.Omega.{arith}
 use lib.IntN.{ℤ}
 use lib.ListN.{length, take, drop, take-append-drop}
 use lib.Seq.{drop-drop, drop-length}
-use Rattle.run.specs.Run.{Lent, Plan}
+use Rattle.run.specs.Run.{Lent}
 use Rattle.series.specs.declared.refusal.Checked.the-variants.{Accepted}
 use Rattle.claims.specs.Calls.{Call, Settings, run, settled, checked, outputTimes, plan, planBy}
 use Rattle.claims.specs.Cut.{AcceptedAlike, Alike, Cut, joined}

@@ -24,9 +24,9 @@ use Rattle.window.specs.Window.{firstOr, isEmpty, lastOr, upToLast}
 use Rattle.config.specs.Estimate.{distances, distancesFrom, estimateOf}
 use Rattle.config.specs.Reach.{reachOf}
 use Rattle.run.specs.Figures.{scans}
-use Rattle.run.specs.Record.{lastOf}
+use Rattle.run.specs.Record.{lastIfAny}
 use Rattle.claims.specs.Table.{Case, fromSecond, table}
 
 pub table-holds : map (λ (x : Case). x .computed) table ≡ map (λ (x : Case). x .stated) table
-unfolding add div eq isNan le lt mul ne neg ofBits ofInt sub toBits toSigned toUnsigned sqrtOf absOf floorOf stdvarOf modeOf quantileOf sortBy kept filter zipWith counterAfter deltas deltasFrom derivs derivsFrom grown intervalsFrom lifted preparedOf resetsFrom sloped candlestick closeOf firstCandle deltaFrom deltaOf firstStep startsLow holtWintersOf outOfRange smoothFrom changesFrom changesPrometheusOf lagOf maxOf minOf firstOr floats isEmpty lastOr upToLast distances distancesFrom estimateOf reachOf scans lastOf fromSecond evalOf
+unfolding add div eq isNan le lt mul ne neg ofBits ofInt sub toBits toSigned toUnsigned sqrtOf absOf floorOf stdvarOf modeOf quantileOf sortBy kept filter zipWith counterAfter deltas deltasFrom derivs derivsFrom grown intervalsFrom lifted preparedOf resetsFrom sloped candlestick closeOf firstCandle deltaFrom deltaOf firstStep startsLow holtWintersOf outOfRange smoothFrom changesFrom changesPrometheusOf lagOf maxOf minOf firstOr floats isEmpty lastOr upToLast distances distancesFrom estimateOf reachOf scans lastIfAny fromSecond evalOf
 table-holds = refl

@@ -3,7 +3,6 @@
 use mathlib.Core.List.{List, [], _∷_, _++_}
 use mathlib.Core.Path.{_≡_}
 use Prim.Native.Nat.{ℕ, _+_, _-_, _*_, _<_}
-use lib.IntN.{ℤ}
 use Rattle.run.specs.Run.{Plan}
 use Rattle.series.specs.declared.refusal.Checked.the-variants.{Accepted}
 use Rattle.claims.specs.Calls.{Call, accepted, answers, checked, counted, outputTimes, plan, samples}

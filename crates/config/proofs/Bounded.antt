@@ -2,11 +2,10 @@
 -- Assumes nothing.
 use Prim.Native.Nat.{ℕ, suc, _+_, _*_, _^_, _≤_, _<_}
 use native.Mathlib.Omega.{arith}
-use native.Mathlib.Nat.{mul-pos, le-trans, le-of-eq, add-le-add, add-mul, mul-le-mul-right, mul-assoc, mul-comm, mul-left-comm}
+use native.Mathlib.Nat.{mul-pos, add-le-add, add-mul, mul-le-mul-right, mul-assoc, mul-comm, mul-left-comm}
 use mathlib.Core.Path.{_≡_, refl, sym, subst}
 use mathlib.Core.Bool.{Bool, true, false, _&&_, _||_, cond, true≢false}
 use lib.Dec.{T, ltb, eqb, ltb→lt, eqb→eq}
-use lib.IntN.{ℤ}
 use lib.Ieee.{Float, nan, inf, fin, binary64, prec, emax, low, up, down, odd, units, round, sum, add, mul, le}
 use lib.Ieee.Exact.{HasValue, odd-sign}
 use lib.Ieee.Fits.{round-is}

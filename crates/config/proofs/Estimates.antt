@@ -5,9 +5,9 @@ use Prim.Native.Nat.{ℕ, zero, suc, _+_, _-_, _*_, _/_, _^_, _≤_, _<_, min}
 use native.Mathlib.Omega.{arith}
 use mathlib.Core.Logic.{_⊎_, inl, inr, ⊎-elim}
 use mathlib.Core.Path.{_≡_, refl, sym}
-use mathlib.Core.Bool.{Bool, true, false, _&&_, cond}
+use mathlib.Core.Bool.{Bool, true, false, _&&_}
 use mathlib.Core.List.{List, [], _∷_, map}
-use borrow.Author.Tests.{eqb-true, eqb-false, ltb-true, ltb-false, leb-false}
+use borrow.Author.Tests.{eqb-false, ltb-true, ltb-false, leb-false}
 use lib.Dec.{T, leb, ltb, eqb, leb→le, lit≤, lit<}
 use lib.IntN.{ℤ, pos, negsuc, natAbs}
 use lib.Ieee.{Float, nan, inf, fin, binary64, isNan, up, down, ofBits, ofInt, add, sub, mul, round, lt, toUnsigned, toSigned}
@@ -15,22 +15,21 @@ use lib.Ieee.Fits.{and-l, and-r, down-pos}
 use lib.Ieee.Nearest.{div-mono}
 use lib.Ieee.Positive.{num, den, den-pos, through}
 use lib.ListN.{length, getD, take, length-take, length-map}
-use lib.Signed.{leZ}
 use Rattle.ieee.specs.Value.{floorOf}
 use Rattle.sort.specs.Values.{kept}
-use Rattle.sort.specs.Sort.{All, insertBy, sortBy}
+use Rattle.sort.specs.Sort.{All}
 use Rattle.sort.specs.Order.{sorted}
 use Rattle.sort.specs.declared.Order.the-variants.{Partial}
 use Rattle.math.specs.Quantile.{between, atRank, rankOf, quantileSorted, quantileOf}
-use Rattle.sort.proofs.Kept.{length-kept}
-use Rattle.sort.proofs.Sorting.{all-at, all-sort, all-take}
+use Rattle.sort.proofs.Kept.{all-kept, length-kept}
+use Rattle.sort.proofs.Sorting.{all-at, all-sort, all-take, length-sort}
 use Rattle.times.specs.Milli.{timeLimit, Within}
 use Rattle.times.specs.Later.{NotFalling}
 use Rattle.times.proofs.Order.{offset-of}
 use Rattle.times.proofs.Later.{not-falling-tail}
 use Rattle.times.proofs.Milli.{within-sub}
 use Rattle.times.proofs.Order.{by-test}
-use Rattle.config.specs.Estimate.{silence, distancesFrom, distances, firstIntervals, orSilence, estimateOf}
+use Rattle.config.specs.Estimate.{distancesFrom, distances, firstIntervals, orSilence, estimateOf}
 use Rattle.config.proofs.Bounded.{plain, Below, round-below, mul-below, add-below}
 use Rattle.config.proofs.Passed.{UpTo}
 
@@ -99,21 +98,6 @@ between-longest w x y t h k =
     }
 
 -- ---- sorted values
-
-all-kept : (P : Float → Type 0) (xs : List Float) → All P xs → All P (kept xs)
-unfolding kept
-all-kept P [] a = tt
-all-kept P (x ∷ xs) a = by-test (isNan x) (λ e. rw e (all-kept P xs (a .1))) (λ e. rw e (a .0, all-kept P xs (a .1)))
-
-length-insert : (less : Float → Float → Bool) (x : Float) (ys : List Float) → length (insertBy less x ys) ≡ suc (length ys)
-unfolding insertBy
-length-insert less x [] = refl
-length-insert less x (y ∷ ys) = by-test (less y x) (λ e. rw e (omega (arith, length-insert less x ys))) (λ e. rw e)
-
-length-sort : (less : Float → Float → Bool) (xs : List Float) → length (sortBy less xs) ≡ length xs
-unfolding sortBy
-length-sort less [] = refl
-length-sort less (x ∷ xs) = omega (arith, length-insert less x (sortBy less xs), length-sort less xs)
 
 rank-longest : (xs : List Float) → 0 < length xs → length xs ≤ 20 → All (λ x. Below x longest) xs → Below (atRank (rankOf phi (length xs)) xs) longest
 unfolding atRank weight

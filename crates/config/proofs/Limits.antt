@@ -1,18 +1,18 @@
 -- Window and reach of an accepted settle lie in 1..2^52, so a settled run that is given them passes its row 8.
 -- Assumes nothing.
-use Prim.Native.Nat.{ℕ, _+_, _*_, _/_, _^_, _≤_, _<_, min, max}
+use Prim.Native.Nat.{ℕ, _^_, _≤_, _<_}
 use native.Mathlib.Omega.{arith}
-use mathlib.Core.Path.{_≡_, refl, sym, ap, _∙_}
+use mathlib.Core.Path.{_≡_, refl, ap}
 use mathlib.Core.Bool.{Bool, true, false, cond}
 use mathlib.Core.List.{List, [], _∷_}
-use borrow.Author.Tests.{leb-true, leb-false, ltb-true, ltb-false, le-leb, lt-ltb, le-ltb}
+use borrow.Author.Tests.{leb-true, ltb-true, le-ltb}
 use lib.Dec.{leb, ltb}
-use lib.IntN.{ℤ, pos, negsuc, natAbs}
-use lib.Signed.{leZ}
+use lib.IntN.{ℤ, pos, natAbs}
 use Rattle.times.specs.Milli.{timeLimit}
+use Rattle.times.proofs.GridLaws.{step-some}
 use Rattle.times.proofs.Order.{by-test}
 use Rattle.series.specs.Answers.{Reply, gives, replyOf}
-use Rattle.series.specs.Refusals.{firstOf}
+use Rattle.series.specs.Refusals.{firstRefusal}
 use Rattle.series.specs.Rows.{timesChecked}
 use Rattle.series.specs.declared.refusal.Checked.{Checked}
 use Rattle.series.specs.declared.refusal.Checked.the-variants.{Accepted, Refused}
@@ -24,7 +24,7 @@ use Rattle.config.specs.Rows.{outside, settledLimit, settledRow8, settin
 use Rattle.config.specs.Settle.{Settlement, settledReach, settledWindow, settlement, settleOf}
 use Rattle.config.proofs.Distances.{not-falling, within}
 use Rattle.config.proofs.Estimates.{estimate-small, estimate-some}
-use Rattle.config.proofs.Passed.{UpTo, Passed, settings-passed}
+use Rattle.config.proofs.Passed.{settings-passed}
 
 -- from 1 to 2^52
 pub record Settleable (n : ℕ) : Type 0 where
@@ -68,10 +68,6 @@ window-settleable window step adjust default lookback reach w s h =
     implied true n k = capped-settleable lookback n k
     implied false n k = k
 
-positive : (x : ℤ) → leZ (pos 1) x ≡ true → 0 < natAbs x
-positive (pos n) e = leb-true 1 n e
-positive (negsuc n) e = omega arith
-
 -- ---- accepted times and settings
 
 module _ (ts : List ℤ) (rc : RollupConfig) (times : timesChecked ts ≡ Accepted) (settings : settingsChecked rc ≡ Accepted) where
@@ -85,13 +81,13 @@ module _ (ts : List ℤ) (rc : RollupConfig) (times : timesChecked ts ≡ Accept
   unfolding settledWindow
   window-in =
       let p = settings-passed rc settings in
-      window-settleable (natAbs (rc .window)) (natAbs (rc .step)) _ _ _ _ (p .window .small) (record { some = positive (rc .step) (p .spans .step-positive); small = omega (arith, p .step .small) }) reach-in
+      window-settleable (natAbs (rc .window)) (natAbs (rc .step)) _ _ _ _ (p .window .small) (record { some = step-some (rc .step) (p .spans .step-positive); small = omega (arith, p .step .small) }) reach-in
 
 -- ---- the law
 
-inside : (n : ℕ) → Settleable n → outside (pos 1) (pos settledLimit) (pos n) ≡ false
+settleable-passes : (n : ℕ) → Settleable n → outside (pos 1) (pos settledLimit) (pos n) ≡ false
 unfolding outside
-inside n h = rw (le-ltb n 1 (h .some), le-ltb settledLimit n (h .small))
+settleable-passes n h = rw (le-ltb n 1 (h .some), le-ltb settledLimit n (h .small))
 
 given : {A : Type 0} (c : Checked) (x y : A) → replyOf c x ≡ gives y → (c ≡ Accepted) × (x ≡ y)
 given {A} Accepted x y e = (refl, cc (ap (λ (a : Reply A). a .values) e))
@@ -101,8 +97,8 @@ given {A} (Refused r) x y e = absurd (let clash : _≡_ {A = ℕ} 0 1 = cc (ap (
 pub settled-in-range : (ts : List ℤ) (rc : RollupConfig) (s : Settlement) → settleOf ts rc ≡ gives s → settledRow8 (s .window) (s .reach) ≡ Accepted
 unfolding settleOf settledOutside
 settled-in-range ts rc s e =
-    let both = given (firstOf (timesChecked ts ∷ settingsChecked rc ∷ [])) (settlement ts rc) s e in
+    let both = given (firstRefusal (timesChecked ts ∷ settingsChecked rc ∷ [])) (settlement ts rc) s e in
     let rows = all-accept (timesChecked ts ∷ settingsChecked rc ∷ []) (both .0) in
     let window : s .window ≡ pos (settledWindow ts rc) = cc (both .1) in
     let reach : s .reach ≡ pos (settledReach ts rc) = cc (both .1) in
-    rw (window, reach, inside (settledWindow ts rc) (window-in ts rc (rows .0) (rows .1 .0)), inside (settledReach ts rc) (reach-in ts rc (rows .0) (rows .1 .0)))
+    rw (window, reach, settleable-passes (settledWindow ts rc) (window-in ts rc (rows .0) (rows .1 .0)), settleable-passes (settledReach ts rc) (reach-in ts rc (rows .0) (rows .1 .0)))

@@ -2,10 +2,10 @@
 -- Assumes nothing.
 use Prim.Native.Nat.{ℕ, zero, suc, _≤_}
 use native.Mathlib.Omega.{arith}
-use mathlib.Core.Path.{_≡_, refl, sym, subst, _∙_}
+use mathlib.Core.Path.{_≡_, refl, subst}
 use mathlib.Core.Bool.{Bool, true, false, _||_, false≢true}
 use mathlib.Core.List.{List, [], _∷_}
-use borrow.Author.Tests.{leb-true, ltb-false, not-false}
+use borrow.Author.Tests.{leb-true}
 use lib.IntN.{ℤ, pos, negsuc, negℤ, natAbs}
 use lib.Dec.{T}
 use lib.Signed.{ltZ, leZ, nonNeg}
@@ -13,10 +13,10 @@ use mir.Syntax.{w64}
 use mir.Val.{Fits, SFits, toZ, ofZ}
 use mir.Facts.{toZ-ofZ}
 use Rattle.times.specs.Milli.{timeLimit, Within}
-use Rattle.times.specs.Grid.{Spans, gridSize}
+use Rattle.times.specs.Grid.{Spans}
 use Rattle.times.proofs.Milli.{within-fits}
-use Rattle.times.proofs.Order.{lt-not-le}
-use Rattle.series.specs.Refusals.{firstOf}
+use Rattle.times.proofs.Order.{not-below}
+use Rattle.series.specs.Refusals.{firstRefusal}
 use Rattle.series.specs.declared.refusal.Refusal.the-variants.{StepOutside, SpanOutside, WindowOutside, SettingOutside}
 use Rattle.series.specs.declared.refusal.Checked.{Checked}
 use Rattle.series.specs.declared.refusal.Checked.the-variants.{Accepted, Refused}
@@ -41,43 +41,36 @@ pub record Passed (rc : RollupConfig) : Type 0 where
 
 -- ---- rows that accept
 
-pub last-row : (row : Checked) → firstOf (row ∷ []) ≡ row
+pub last-row : (row : Checked) → firstRefusal (row ∷ []) ≡ row
 last-row Accepted = refl
 last-row (Refused r) = refl
 
 -- the first two of a call's rows, taken together
-pub two-rows : (a b : Checked) (rows : List Checked) → firstOf (a ∷ b ∷ rows) ≡ firstOf (firstOf (a ∷ b ∷ []) ∷ rows)
+pub two-rows : (a b : Checked) (rows : List Checked) → firstRefusal (a ∷ b ∷ rows) ≡ firstRefusal (firstRefusal (a ∷ b ∷ []) ∷ rows)
 two-rows Accepted Accepted rows = refl
 two-rows Accepted (Refused r) rows = refl
 two-rows (Refused r) b rows = refl
 
-or-false : (a b : Bool) → (a || b) ≡ false → (a ≡ false) × (b ≡ false)
+pub or-false : (a b : Bool) → (a || b) ≡ false → (a ≡ false) × (b ≡ false)
 or-false true b e = absurd (let z : _≡_ {A = ℕ} 0 1 = cc in omega arith)
 or-false false b e = (refl, e)
 
 -- ---- ranges
 
-not-below : (a b : ℤ) → ltZ a b ≡ false → leZ b a ≡ true
-not-below a b e = not-false (leZ b a) (sym (lt-not-le a b) ∙ e)
-
-pub inside : (lo hi x : ℤ) → outside lo hi x ≡ false → (leZ lo x ≡ true) × (leZ x hi ≡ true)
+pub not-outside : (lo hi x : ℤ) → outside lo hi x ≡ false → (leZ lo x ≡ true) × (leZ x hi ≡ true)
 unfolding outside
-inside lo hi x e =
+not-outside lo hi x e =
     let both = or-false (ltZ x lo) (ltZ hi x) e in
     (not-below x lo (both .0), not-below hi x (both .1))
 
-up-to : (k : ℕ) (x : ℤ) → outside (pos 0) (pos k) x ≡ false → UpTo k x
-up-to k (pos n) e = record { whole = refl; small = leb-true n k (inside (pos 0) (pos k) (pos n) e .1) }
-up-to k (negsuc n) e = absurd (false≢true (inside (pos 0) (pos k) (negsuc n) e .0))
-
-positive : (k : ℕ) (x : ℤ) → outside (pos 1) (pos k) x ≡ false → UpTo k x
-positive k (pos n) e = record { whole = refl; small = leb-true n k (inside (pos 1) (pos k) (pos n) e .1) }
-positive k (negsuc n) e = absurd (false≢true (inside (pos 1) (pos k) (negsuc n) e .0))
+pub up-to : (lo k : ℕ) (x : ℤ) → outside (pos lo) (pos k) x ≡ false → UpTo k x
+up-to lo k (pos n) e = record { whole = refl; small = leb-true n k (not-outside (pos lo) (pos k) (pos n) e .1) }
+up-to lo k (negsuc n) e = absurd (false≢true (not-outside (pos lo) (pos k) (negsuc n) e .0))
 
 either : (k : ℕ) (x : ℤ) → outside (negℤ (pos k)) (pos k) x ≡ false → Within k x
-either k (pos n) e = record { size = leb-true n k (inside (negℤ (pos k)) (pos k) (pos n) e .1) }
-either zero (negsuc n) e = absurd (false≢true (inside (pos 0) (pos 0) (negsuc n) e .0))
-either (suc k) (negsuc n) e = record { size = omega (arith, leb-true n k (inside (negsuc k) (pos (suc k)) (negsuc n) e .0)) }
+either k (pos n) e = record { size = leb-true n k (not-outside (negℤ (pos k)) (pos k) (pos n) e .1) }
+either zero (negsuc n) e = absurd (false≢true (not-outside (pos 0) (pos 0) (negsuc n) e .0))
+either (suc k) (negsuc n) e = record { size = omega (arith, leb-true n k (not-outside (negsuc k) (pos (suc k)) (negsuc n) e .0)) }
 
 -- such a number is an `i64`, and a `u64` too
 pub up-to-fits : {x : ℤ} → UpTo timeLimit x → SFits w64 x
@@ -97,8 +90,8 @@ spans start end step six seven =
       start-within = either timeLimit start (each .0);
       end-within = either timeLimit end (each .1);
       ordered = not-below end start (ends .1);
-      step-positive = inside (pos 1) (pos timeLimit) step six .0;
-      step-within = record { size = positive timeLimit step six .small };
+      step-positive = not-outside (pos 1) (pos timeLimit) step six .0;
+      step-within = record { size = up-to 1 timeLimit step six .small };
     }
 
 pub span-passed : (start end step : ℤ) → spanChecked start end step ≡ Accepted → Spans start end step
@@ -120,11 +113,11 @@ module _ (rc : RollupConfig) where
       let two = or-false lookback staleness (three .0) in
       record {
         spans = spans (rc .start) (rc .end) (rc .step) (fails _ StepOutside (each .0)) (fails _ SpanOutside (each .1 .0));
-        step = positive timeLimit (rc .step) (fails _ StepOutside (each .0));
-        window = up-to timeLimit (rc .window) (fails _ WindowOutside (each .1 .1 .0));
-        lookback = up-to timeLimit (rc .«lookback_delta») (two .0);
-        staleness = up-to timeLimit (rc .«min_staleness_interval») (two .1);
-        limit = up-to timeLimit (rc .«max_points_per_series») (three .1);
+        step = up-to 1 timeLimit (rc .step) (fails _ StepOutside (each .0));
+        window = up-to 0 timeLimit (rc .window) (fails _ WindowOutside (each .1 .1 .0));
+        lookback = up-to 0 timeLimit (rc .«lookback_delta») (two .0);
+        staleness = up-to 0 timeLimit (rc .«min_staleness_interval») (two .1);
+        limit = up-to 0 timeLimit (rc .«max_points_per_series») (three .1);
       }
 
   pub settings-passed : settingsChecked rc ≡ Accepted → Passed rc

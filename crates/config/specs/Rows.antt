@@ -2,14 +2,14 @@
 -- row 8 of its own, only the last part of row 9, and no row 10. Ranges include both ends.
 -- Assumes nothing.
 use mathlib.Core.Bool.{Bool, _||_, _&&_}
-use mathlib.Core.List.{List, [], _∷_}
+use mathlib.Core.List.{[], _∷_}
 use Prim.Native.Nat.{ℕ, _^_}
 use lib.Dec.{ltb}
 use lib.IntN.{ℤ, pos, negℤ, _+ℤ_, _-ℤ_}
 use lib.Signed.{ltZ, quotZ}
 use Rattle.times.specs.Milli.{timeLimit}
 use Rattle.times.specs.Grid.{gridSize}
-use Rattle.series.specs.Refusals.{refusedIf, firstOf}
+use Rattle.series.specs.Refusals.{refusedIf, firstRefusal}
 use Rattle.series.specs.declared.refusal.Checked.{Checked}
 use Rattle.series.specs.declared.refusal.Refusal.the-variants.{StepOutside, SpanOutside, WindowOutside, SettingOutside, OverPointLimit, TooManyPoints}
 use Rattle.config.specs.declared.settings.RollupConfig.{RollupConfig}
@@ -77,12 +77,12 @@ row11 start end step = refusedIf (ltb maxPoints (gridSize start end step)) TooMa
 
 -- rows 6 and 7, on the grid's start, end and step
 abbrev pub spanChecked : ℤ → ℤ → ℤ → Checked
-spanChecked start end step = firstOf (row6 step ∷ row7 start end ∷ [])
+spanChecked start end step = firstRefusal (row6 step ∷ row7 start end ∷ [])
 
 -- rows 6 to 9, which are on one setting or two
 abbrev pub rangesChecked : RollupConfig → Checked
 rangesChecked rc =
-    firstOf
+    firstRefusal
     (row6 (rc .step)
     ∷ row7 (rc .start) (rc .end)
     ∷ row8 (rc .window)
@@ -92,13 +92,13 @@ rangesChecked rc =
 -- rows 6 to 11
 unfoldable pub settingsChecked : RollupConfig → Checked
 settingsChecked rc =
-    firstOf
+    firstRefusal
     (rangesChecked rc ∷ row10 (rc .start) (rc .end) (rc .step) (rc .«max_points_per_series») ∷ row11 (rc .start) (rc .end) (rc .step) ∷ [])
 
 -- rows 6 to 11 of a settled run
 unfoldable pub settledSettings : SettledConfig → Checked
 settledSettings sc =
-    firstOf
+    firstRefusal
     (row6 (sc .step)
     ∷ row7 (sc .start) (sc .end)
     ∷ settledRow8 (sc .window) (sc .reach)

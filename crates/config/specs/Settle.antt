@@ -5,7 +5,7 @@ use Prim.Native.Nat.{ℕ}
 use lib.IntN.{ℤ, pos, natAbs}
 use Rattle.times.specs.Grid.{gridSize}
 use Rattle.series.specs.Answers.{Reply, gives, refuses, replyOf}
-use Rattle.series.specs.Refusals.{firstOf}
+use Rattle.series.specs.Refusals.{firstRefusal}
 use Rattle.series.specs.Rows.{timesChecked}
 use Rattle.config.specs.declared.settings.RollupConfig.{RollupConfig}
 use Rattle.config.specs.declared.settle.Settled.{Settled}
@@ -39,4 +39,4 @@ settlement ts rc = record { window = pos (settledWindow ts rc); reach = pos (set
 
 -- rows 2 to 4 and 6 to 11, lowest number first
 unfoldable pub settleOf : List ℤ → RollupConfig → Reply Settlement
-settleOf ts rc = replyOf (firstOf (timesChecked ts ∷ settingsChecked rc ∷ [])) (settlement ts rc)
+settleOf ts rc = replyOf (firstRefusal (timesChecked ts ∷ settingsChecked rc ∷ [])) (settlement ts rc)

@@ -1,7 +1,7 @@
 // How far back a predecessor may lie, and how long a window is, from the estimated interval between readings and the settings.
 
 ghost use mathlib.Core.Path.{_≡_};
-ghost use Prim.Native.Nat.{_≤_, _<_, _^_};
+ghost use Prim.Native.Nat.{_<_, _^_};
 ghost use Rattle.config.specs.Reach.{reachOf, cappedBy, boundedReach, raisedStep, windowOf};
 
 // The reach of an estimate. A short interval is raised more, which hides gaps where readings come unevenly.

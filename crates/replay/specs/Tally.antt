@@ -1,7 +1,7 @@
 -- How cases are counted.
 -- Assumes nothing.
 use mathlib.Core.Path.{_≡_}
-use mathlib.Core.Bool.{Bool, true, false}
+use mathlib.Core.Bool.{cond}
 use Prim.Native.Nat.{ℕ, _+_, _-_, _≤_, _<_}
 use lib.Dec.{ltb, eqb}
 use Rattle.replay.specs.declared.Case.{Case}
@@ -17,22 +17,17 @@ abbrev pub passed : Tally → ℕ → Tally
 passed t end =
     record { at = end; cases = t .cases + 1; differences = t .differences; first = t .first; from = t .from; to = t .to }
 
--- the first where the test holds, else the second
-abbrev pub pick : {A : Type 0} → Bool → A → A → A
-pick true a b = a
-pick false a b = b
-
 -- one case more, up to a byte, with another answer; the first such case is remembered
 abbrev pub differed : Tally → ℕ → Tally
 differed t end =
     let none = eqb (t .differences + 1) 1 in
-    record { at = end; cases = t .cases + 1; differences = t .differences + 1; first = pick none (t .cases + 1) (t .first); from = pick none (t .at) (t .from); to = pick none end (t .to) }
+    record { at = end; cases = t .cases + 1; differences = t .differences + 1; first = cond none (t .cases + 1) (t .first); from = cond none (t .at) (t .from); to = cond none end (t .to) }
 
 -- after a case of a text of n bytes: one that does not stand whole in it is cut short
 abbrev pub nextOf : Tally → ℕ → Case → Tally
 nextOf t n c =
-    pick (eqb (c .len) 0) (differed t n)
-    (pick (ltb (n - t .at) (c .len)) (differed t n) (pick (c .same) (passed t (t .at + c .len)) (differed t (t .at + c .len))))
+    cond (eqb (c .len) 0) (differed t n)
+    (cond (ltb (n - t .at) (c .len)) (differed t n) (cond (c .same) (passed t (t .at + c .len)) (differed t (t .at + c .len))))
 
 -- what a program goes by: the tally is that of the rule, is well counted, and has moved on
 pub record After (t : Tally) (n : ℕ) (c : Case) (r : Tally) : Type 0 where

@@ -1,12 +1,12 @@
 // What the programs that replay a list of stored answers share: the tally of cases and differences,
 // and the lines that report it. A program has a function that replays one case, and one loop.
 
-ghost use mathlib.Core.Bool.{false};
+ghost use mathlib.Core.Bool.{cond, false};
 ghost use mathlib.Core.Path.{_≡_};
 ghost use Prim.Native.Nat.{_<_};
 ghost use lib.Dec.{eqb};
 ghost use lib.ListN.{drop, length};
-ghost use Rattle.replay.specs.Tally.{After, Counted, differed, pick};
+ghost use Rattle.replay.specs.Tally.{After, Counted, differed};
 use libc::STDOUT_FILENO;
 
 // Zeros, as many as the longest list may have bytes. The `ensures` gives the length alone, which lending
@@ -35,7 +35,7 @@ pub fn unread() -> Case
 
 // A test's outcome as it is stored.
 pub fn flag(b: bool) -> u64
-    ensures { λ r. ⌜ r ≡ pick b 1 0 ⌝ }
+    ensures { λ r. ⌜ r ≡ cond b 1 0 ⌝ }
 {
     if b { 1 } else { 0 }
 }

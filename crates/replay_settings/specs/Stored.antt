@@ -15,7 +15,7 @@ abbrev pub numberAt : List ℕ → ℕ → ℕ → ℤ
 numberAt text at k = toZ w64 (wordAt text (at + k * 17))
 
 -- the settings have the ten words from a byte on; of the two tests the word 1 says that they hold
-pub record Settings (text : List ℕ) (at : ℕ) (rc : RollupConfig) : Type 0 where
+pub record StoredSettings (text : List ℕ) (at : ℕ) (rc : RollupConfig) : Type 0 where
   pub start : rc .start ≡ numberAt text at 0
   pub end : rc .end ≡ numberAt text at 1
   pub step : rc .step ≡ numberAt text at 2

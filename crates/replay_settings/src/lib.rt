@@ -8,7 +8,7 @@ ghost use mathlib.Core.Bool.{true};
 ghost use mathlib.Core.Path.{_≡_};
 ghost use Prim.Native.Nat.{_<_};
 ghost use Rattle.config.specs.declared.settle.Settled.the-variants as Answers;
-ghost use Rattle.replay_settings.specs.Stored.{Settings, numberAt};
+ghost use Rattle.replay_settings.specs.Stored.{StoredSettings, numberAt};
 
 // The k-th word from a byte on, as a signed number.
 pub fn number(text: &[u8], at: usize, k: usize) -> i64
@@ -21,7 +21,7 @@ pub fn number(text: &[u8], at: usize, k: usize) -> i64
 // The settings whose ten words begin at a byte.
 pub fn settings(text: &[u8], at: usize) -> RollupConfig
     requires { ⌜ at < 4096 ⌝ }
-    ensures { λ r. ⌜ Settings (now (text .entry)) at r ⌝ }
+    ensures { λ r. ⌜ StoredSettings (now (text .entry)) at r ⌝ }
 {
     RollupConfig {
         start: number(text, at, 0),

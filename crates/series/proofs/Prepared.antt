@@ -167,5 +167,5 @@ numbers Intervals (t ∷ u ∷ us) vs w a lone =
     let later = intervals-numbers (wholeSeconds t) (seconds-finite t (w .0)) (u ∷ us) (w .1) in
     (later .0, later)
 
-pub prepared-numbers : (pre : PreFunction) (ts : List ℤ) (bs : List ℕ) → AcceptedSeries ts bs → (pre ≡ Intervals → length ts ≢ 1) → All Number (preparedOf pre ts (floats bs))
-prepared-numbers pre ts bs accepted lone = numbers pre ts (floats bs) (within-list ts (accepted .times .all-inside)) (finite-all bs (accepted .all-finite)) lone
+pub prepared-not-nan : (pre : PreFunction) (ts : List ℤ) (bs : List ℕ) → AcceptedSeries ts bs → (pre ≡ Intervals → length ts ≢ 1) → All Number (preparedOf pre ts (floats bs))
+prepared-not-nan pre ts bs accepted lone = numbers pre ts (floats bs) (within-list ts (accepted .times .all-inside)) (finite-all bs (accepted .all-finite)) lone

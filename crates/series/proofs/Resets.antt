@@ -126,7 +126,7 @@ resets-numbers vs a = numbers-from _ refl vs a
 
 -- ---- they never fall
 
-lifted-fits : (p w : Float) → T (fits binary64 p) → T (fits binary64 w) → T (fits binary64 (lifted p w))
+pub lifted-fits : (p w : Float) → T (fits binary64 p) → T (fits binary64 w) → T (fits binary64 (lifted p w))
 unfolding lifted
 lifted-fits p w h k = by-test (lt w p) (λ e. rw e h) (λ e. rw e k)
 

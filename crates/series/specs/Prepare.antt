@@ -6,7 +6,7 @@ use lib.IntN.{ℤ}
 use lib.ListN.{length, drop}
 use Rattle.series.specs.Answers.{Outcome, outcomeOf}
 use Rattle.ieee.specs.Patterns.{floats, patterns}
-use Rattle.series.specs.Refusals.{firstOf}
+use Rattle.series.specs.Refusals.{firstRefusal}
 use Rattle.series.specs.Rows.{seriesChecked, row13}
 use Rattle.series.specs.Steps.{preparedOf}
 use Rattle.series.specs.declared.refusal.Checked.{Checked}
@@ -14,7 +14,7 @@ use Rattle.series.specs.declared.steps.PreFunction.{PreFunction}
 
 -- rows 1 to 5 and 13, for a prepared slice of room entries
 unfoldable pub prepareChecked : List ℤ → List ℕ → ℕ → Checked
-prepareChecked ts vs room = firstOf (seriesChecked ts vs ∷ row13 (length vs) room ∷ [])
+prepareChecked ts vs room = firstRefusal (seriesChecked ts vs ∷ row13 (length vs) room ∷ [])
 
 -- the prepared values' patterns first, all else untouched
 abbrev pub prepareOf : PreFunction → List ℤ → List ℕ → List ℕ → Outcome (Unit {0}) (List ℕ)

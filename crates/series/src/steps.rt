@@ -9,7 +9,7 @@ ghost use lib.Ieee.Scale.{finite};
 ghost use lib.ListN.{length, getD};
 ghost use Rattle.times.specs.Milli.{timeLimit, Within};
 ghost use Rattle.times.specs.Leading.{leading};
-ghost use Rattle.series.specs.Rows.{inside, finiteBits};
+ghost use Rattle.series.specs.Rows.{timeInside, finiteBits};
 ghost use Rattle.series.specs.Steps.{counterAfter, grown, lifted, resets, deltas, sloped, derivs, wholeSeconds, intervals};
 
 // What is done to a series' values before they are rolled up.
@@ -136,7 +136,7 @@ impl Slope {
 
 // Each value's slope to the next, per second; the last slope twice.
 pub fn deriv_values(values: &[u64], timestamps: &[i64], prepared: &mut [u64])
-    requires { ⌜ (length (now timestamps) ≡ length (now values)) × (length (now prepared) ≡ length (now values)) × (leading inside (now timestamps) ≡ length (now timestamps)) × (leading finiteBits (now values) ≡ length (now values)) ⌝ }
+    requires { ⌜ (length (now timestamps) ≡ length (now values)) × (length (now prepared) ≡ length (now values)) × (leading timeInside (now timestamps) ≡ length (now timestamps)) × (leading finiteBits (now values) ≡ length (now values)) ⌝ }
     ensures { λ _. ⌜ now (prepared .exit) ≡ patterns (derivs (now (timestamps .entry)) (floats (now (values .entry)))) ⌝ }
 {
     if values.len() == 0 {

@@ -65,7 +65,7 @@ grid-take s st (suc n) (suc k) h = ap (λ (l : List ℤ). s ∷ l) (grid-take (s
 
 -- ---- in the limits of rows 6 and 7
 
-step-some : (st : ℤ) → leZ (pos 1) st ≡ true → 0 < natAbs st
+pub step-some : (st : ℤ) → leZ (pos 1) st ≡ true → 0 < natAbs st
 step-some (pos d) h = leb-true 1 d h
 step-some (negsuc d) h = zero-lt-suc d
 

@@ -4,7 +4,7 @@ use Prim.Native.Nat.{ℕ, zero, suc, _+_, _-_, _≤_, _<_, zero-le}
 use native.Mathlib.Omega.{arith}
 use mathlib.Core.Path.{_≡_, refl, sym, ap, _∙_}
 use mathlib.Core.Bool.{Bool, true, false, not, false≢true}
-use borrow.Author.Tests.{lt-ltb, le-ltb, le-leb, lt-leb, ltb-true, ltb-false, leb-true, leb-false}
+use borrow.Author.Tests.{lt-ltb, le-ltb, le-leb, lt-leb, ltb-true, ltb-false, leb-true, leb-false, not-false}
 use lib.Dec.{ltb, leb}
 use lib.IntN.{ℤ, pos, negsuc, negℤ, natAbs, _+ℤ_, _-ℤ_, +ℤ-assoc, +ℤ-comm, +ℤ-idr, +ℤ-negℤ-cancel, -ℤ-+ℤ-cancel}
 use lib.Signed.{ltZ, leZ}
@@ -28,6 +28,9 @@ lt-not-le (pos a) (pos b) = ltb-not-leb a b
 lt-not-le (pos a) (negsuc b) = refl
 lt-not-le (negsuc a) (pos b) = refl
 lt-not-le (negsuc a) (negsuc b) = ltb-not-leb b a
+
+pub not-below : (a b : ℤ) → ltZ a b ≡ false → leZ b a ≡ true
+not-below a b e = not-false (leZ b a) (sym (lt-not-le a b) ∙ e)
 
 pub le-trans : (a b c : ℤ) → leZ a b ≡ true → leZ b c ≡ true → leZ a c ≡ true
 le-trans (pos a) (pos b) (pos c) h k = le-leb a c (omega (arith, leb-true a b h, leb-true b c k))

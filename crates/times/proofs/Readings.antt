@@ -22,11 +22,6 @@ module _ {A B : Type 0} (f : A → B) where
   map-drop (suc n) [] = refl
   map-drop (suc n) (x ∷ xs) = map-drop n xs
 
-  pub map-take : (n : ℕ) (xs : List A) → map f (take n xs) ≡ take n (map f xs)
-  map-take zero xs = refl
-  map-take (suc n) [] = refl
-  map-take (suc n) (x ∷ xs) = ap (λ (l : List B). f x ∷ l) (map-take n xs)
-
 module _ {A B C : Type 0} (g : A → B → C) where
   pub zip-length : (xs : List A) (ys : List B) → length xs ≡ length ys → length (zipWith g xs ys) ≡ length xs
   unfolding zipWith

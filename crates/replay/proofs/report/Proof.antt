@@ -6,17 +6,11 @@ use borrow.Author.Tests.{eq-eqb, ne-eqb}
 use Rattle.replay.proofs.report.Statement.{statement}
 use Rattle.replay.proofs.report.Tie as tie
 
-print-counts-requires : tie.Need-print-counts-requires
-print-counts-requires c κs = search needs
-
 returns : tie.Need-returns
 returns c = sym (eq-eqb _ _ (c .if1 .taken))
-
-print-first-requires : tie.Need-print-first-requires
-print-first-requires c κs = search needs
 
 returns-2 : tie.Need-returns-2
 returns-2 c = sym (ne-eqb _ _ (c .before .if1 .left))
 
 pub report-spec : {M : Type 1} → statement M
-report-spec = tie.close (tie.spec print-counts-requires returns print-first-requires returns-2)
+report-spec = tie.close (tie.spec (λ c κs. search needs) returns (λ c κs. search needs) returns-2)

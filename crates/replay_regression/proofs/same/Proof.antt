@@ -5,11 +5,13 @@ use mathlib.Core.Path.{sym, _∙_}
 use native.Mathlib.Omega.{arith}
 use borrow.Author.Needs.{needs}
 use lib.IntN.{pos, negsuc}
+use lib.Signed.{ltZ}
 use mir.Syntax.{w64}
 use mir.Val.{SFits, ofZ, toZ}
 use mir.ValLaws.{toZ-ofZ}
 use Rattle.times.specs.Milli.{Within}
-use Rattle.times.proofs.Milli.{lift, lift-within, lt-left, within-fits, within-sub}
+use Rattle.times.proofs.Milli.{read, within-between, within-fits, within-sub}
+use Rattle.times.proofs.Order.{not-below}
 use Rattle.config.proofs.Distances.{within}
 use Rattle.replay_regression.proofs.same.Statement.{statement}
 use Rattle.replay_regression.proofs.same.Tie as tie
@@ -21,15 +23,15 @@ high : SFits w64 (pos (2 ^ 51))
 high = record { sfits = omega arith }
 
 linear-regression-requires : tie.Need-linear-regression-requires
-unfolding lift
 linear-regression-requires c κs =
     let told = c .before .before in
     let start = told .before .before .before .before in
     let fits = start .fits .intercept in
-    let above = lt-left fits low (c .before .if1 .left) in
-    let below = lt-left high fits (c .if2 .left) in
-    let near : Within (2 ^ 51) (start .args .intercept) = lift-within fits (omega arith) (omega arith) in
-    let passed : Within (2 ^ 51) (toZ w64 (ofZ w64 (start .args .intercept))) = rw (toZ-ofZ w64 (start .args .intercept) fits) near in
+    let x = start .args .intercept in
+    let above = not-below x (negsuc (2 ^ 51 - 1)) (sym (read fits low ltZ) ∙ c .before .if1 .left) in
+    let below = not-below (pos (2 ^ 51)) x (sym (read high fits ltZ) ∙ c .if2 .left) in
+    let near : Within (2 ^ 51) x = within-between {a = negsuc (2 ^ 51 - 1)} {b = pos (2 ^ 51)} (record { size = omega arith }) (record { size = omega arith }) above below in
+    let passed : Within (2 ^ 51) (toZ w64 (ofZ w64 x)) = rw (toZ-ofZ w64 x fits) near in
     let accepted = sym (told .before .before .check-times .ensures) ∙ told .enum-told2 .given .1 in
     (start .pre, λ i h. within-fits tt (within-sub (within _ accepted i h) passed))
 

@@ -4,31 +4,24 @@ use Prim.Native.Nat.{ℕ, _<_}
 use mathlib.Core.Path.{_≡_, sym, _∙_}
 use native.Mathlib.Omega.{arith}
 use borrow.Author.Needs.{needs}
-use lib.IntN.{ℤ}
-use mir.Syntax.{w64}
-use mir.Val.{ofZ, toZ}
 use mir.Facts.{toZ-ofZ}
 use Rattle.config.proofs.Passed.{settings-passed}
 use Rattle.config.specs.Rows.{settingsChecked}
 use Rattle.config.specs.declared.settings.RollupConfig.{RollupConfig}
 use Rattle.series.specs.declared.refusal.Checked.the-variants.{Accepted}
 use Rattle.times.specs.Grid.{OnGrid, Spans, gridSize}
-use Rattle.times.proofs.Milli.{within-fits}
+use Rattle.times.proofs.Milli.{readBack, within-fits}
 use Rattle.replay_search.proofs.same_grid.Statement.{statement}
 use Rattle.replay_search.proofs.same_grid.Tie as tie
 
--- a time as it is read back from its bits
-abbrev back : ℤ → ℤ
-back z = toZ w64 (ofZ w64 z)
-
 module _ (rc : RollupConfig) (e : settingsChecked rc ≡ Accepted) where
-  spans : Spans (back (rc .start)) (back (rc .end)) (back (rc .step))
+  spans : Spans (readBack (rc .start)) (readBack (rc .end)) (readBack (rc .step))
   spans =
       let p = settings-passed rc e .spans in
       rw (toZ-ofZ (within-fits tt (p .start-within)), toZ-ofZ (within-fits tt (p .end-within)), toZ-ofZ (within-fits tt (p .step-within))) p
 
-  on : (n : ℕ) → n ≡ gridSize (back (rc .start)) (back (rc .end)) (back (rc .step)) → (k : ℕ) → k < n → OnGrid (back (rc .start)) (back (rc .step)) k
-  on n size k h = record { end = back (rc .end); spans = spans; below = omega (arith, size) }
+  on : (n : ℕ) → n ≡ gridSize (readBack (rc .start)) (readBack (rc .end)) (readBack (rc .step)) → (k : ℕ) → k < n → OnGrid (readBack (rc .start)) (readBack (rc .step)) k
+  on n size k h = record { end = readBack (rc .end); spans = spans; below = omega (arith, size) }
 
 accepted : (c : tie.After-enum-told2) → settingsChecked (c .before .before .before .before .args .rc) ≡ Accepted
 accepted c = sym (c .before .before .check-settings .ensures) ∙ c .enum-told2 .given .1

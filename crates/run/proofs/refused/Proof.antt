@@ -7,12 +7,6 @@ use borrow.Author.Needs.{needs}
 use Rattle.run.proofs.refused.Statement.{statement}
 use Rattle.run.proofs.refused.Tie as tie
 
-enum-known-settled : tie.Need-enum-known-settled
-enum-known-settled c = search needs
-
-enum-told : tie.Need-enum-told
-enum-told c = search needs
-
 returns : tie.Need-returns
 returns c x e = cc (c .before .settled .given .1)
 
@@ -20,4 +14,4 @@ returns-2 : tie.Need-returns-2
 returns-2 c x e = let clash : _≡_ {A = ℕ} 0 1 = cc (c .enum-told .given .1) in absurd (omega arith)
 
 pub refused-spec : {M : Type 1} → statement M
-refused-spec = tie.close (tie.spec enum-known-settled enum-told returns returns-2)
+refused-spec = tie.close (tie.spec (λ c. search needs) (λ c. search needs) returns returns-2)

@@ -113,18 +113,4 @@ returns-3 c =
 pub run-spec : {M : Type 1} → statement M
 run-spec =
     tie.close
-    (tie.spec
-    (λ c κs. search needs)
-    (λ c. search needs)
-    returns
-    (λ c. search needs)
-    settle-settings-requires
-    (λ c. search needs)
-    (λ c. search needs)
-    (λ c κs. search needs)
-    returns-2
-    execute-within-requires
-    (λ c. search needs)
-    (λ c. search needs)
-    (λ c. search needs)
-    returns-3)
+    (tie.spec (λ c κs. search needs) (λ c. search needs) returns (λ c. search needs) settle-settings-requires (λ c. search needs) (λ c. search needs) (λ c κs. search needs) returns-2 execute-within-requires (λ c. search needs) (λ c. search needs) (λ c. search needs) returns-3)

@@ -1,6 +1,6 @@
 -- `run::settled_run` meets its contract: the rows come in the table's order, a refusal touches no slice, and what no row refuses is executed.
 -- Assumes nothing.
-use mathlib.Core.Path.{_≡_, sym, ap, _∙_}
+use mathlib.Core.Path.{_≡_, sym, _∙_}
 use borrow.Author.Needs.{needs}
 use lib.ListN.{length}
 use Rattle.config.specs.Course.{settledCourse}
@@ -64,18 +64,4 @@ returns-3 c =
 pub settled-run-spec : {M : Type 1} → statement M
 settled-run-spec =
     tie.close
-    (tie.spec
-    (λ c κs. search needs)
-    (λ c. search needs)
-    returns
-    (λ c. search needs)
-    (λ c κs. search needs)
-    (λ c. search needs)
-    returns-2
-    (λ c. search needs)
-    settled-course-requires
-    execute-within-requires
-    (λ c. search needs)
-    (λ c. search needs)
-    (λ c. search needs)
-    returns-3)
+    (tie.spec (λ c κs. search needs) (λ c. search needs) returns (λ c. search needs) (λ c κs. search needs) (λ c. search needs) returns-2 (λ c. search needs) settled-course-requires execute-within-requires (λ c. search needs) (λ c. search needs) (λ c. search needs) returns-3)

@@ -12,34 +12,19 @@ use Rattle.series.specs.Prepare.{prepareChecked}
 use Rattle.series.proofs.prepare.Statement.{statement}
 use Rattle.series.proofs.prepare.Tie as tie
 
-check-series-requires : tie.Need-check-series-requires
-check-series-requires c κs = search needs
-
-enum-known-checked : tie.Need-enum-known-checked
-enum-known-checked c = search needs
-
 returns : tie.Need-returns
 unfolding prepareChecked
 returns c = rw (← c .before .before .before .check-series .ensures, c .before .checked .given .1)
 
-enum-told : tie.Need-enum-told
-enum-told c = search needs
-
 returns-2 : tie.Need-returns-2
 unfolding prepareChecked
 returns-2 c = rw (lt-ltb _ _ (c .if1 .taken), ← c .before .before .before .check-series .ensures, c .before .enum-told .given .1)
-
-slice-relend-prefix-apply : tie.Need-slice-relend-prefix-apply
-slice-relend-prefix-apply c = search needs
 
 slice-aggregate-apply : tie.Need-slice-aggregate-apply
 slice-aggregate-apply c = sym (length-take-le _ _ (c .before .if1 .left))
 
 apply-requires : tie.Need-apply-requires
 apply-requires c κs = (sym (c .before .before .before .before .check-series .ensures) ∙ c .before .before .enum-told .given .1, length-take-le _ _ (c .before .if1 .left))
-
-same-length : tie.Need-same-length
-same-length c = search needs
 
 returns-3 : tie.Need-returns-3
 unfolding prepareChecked
@@ -53,14 +38,4 @@ returns-3 c =
 pub prepare-spec : {M : Type 1} → statement M
 prepare-spec =
     tie.close
-    (tie.spec
-    check-series-requires
-    enum-known-checked
-    returns
-    enum-told
-    returns-2
-    slice-relend-prefix-apply
-    slice-aggregate-apply
-    apply-requires
-    same-length
-    returns-3)
+    (tie.spec (λ c κs. search needs) (λ c. search needs) returns (λ c. search needs) returns-2 (λ c. search needs) slice-aggregate-apply apply-requires (λ c. search needs) returns-3)

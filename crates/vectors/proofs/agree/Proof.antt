@@ -3,7 +3,7 @@
 use Prim.Native.Nat.{ℕ, _≤_, _<_, _-_, _+_, _*_}
 use mathlib.Core.Path.{_≡_, sym, _∙_}
 use mathlib.Core.List.{List}
-use mathlib.Core.Bool.{Bool}
+use mathlib.Core.Bool.{Bool, _&&_}
 use native.Mathlib.Omega.{arith}
 use native.Mathlib.Numerals.{add-one}
 use borrow.Author.Needs.{needs}
@@ -11,7 +11,7 @@ use borrow.Author.Tests.{eq-eqb, ne-eqb}
 use lib.Dec.{eqb}
 use lib.ListN.{length, drop, getD}
 use lib.Seq.{drop-cons, drop-length}
-use Rattle.vectors.specs.Words.{agrees, both, wordAt}
+use Rattle.vectors.specs.Words.{agrees, wordAt}
 use Rattle.vectors.proofs.agree.Statement.{statement}
 use Rattle.vectors.proofs.agree.Tie as tie
 
@@ -19,7 +19,7 @@ abbrev left : List ℕ → ℕ → List ℕ → ℕ → Bool
 left s at xs i = agrees s (at + 17 * i) (drop i xs)
 
 -- what is left from i on, by the number at i
-from : (s : List ℕ) (at : ℕ) (xs : List ℕ) (i : ℕ) → i < length xs → left s at xs i ≡ both (eqb (getD xs i 0) (wordAt s (at + 17 * i))) (left s at xs (i + 1))
+from : (s : List ℕ) (at : ℕ) (xs : List ℕ) (i : ℕ) → i < length xs → left s at xs i ≡ eqb (getD xs i 0) (wordAt s (at + 17 * i)) && left s at xs (i + 1)
 unfolding agrees
 from s at xs i h =
     let next : at + 17 * i + 17 ≡ at + 17 * (i + 1) = omega arith in

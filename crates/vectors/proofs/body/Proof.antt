@@ -6,16 +6,17 @@ use native.Mathlib.Omega.{arith}
 use native.Mathlib.Numerals.{add-one}
 use borrow.Author.Needs.{needs}
 use borrow.Author.Tests.{eq-eqb, ne-eqb}
+use mathlib.Core.Bool.{cond}
 use mathlib.Core.List.{List}
 use lib.Dec.{eqb}
 use lib.ListN.{length, drop, getD}
 use lib.Seq.{drop-cons, drop-length}
-use Rattle.vectors.specs.Words.{bodyOf, pick}
+use Rattle.vectors.specs.Words.{bodyOf}
 use Rattle.vectors.proofs.body.Statement.{statement}
 use Rattle.vectors.proofs.body.Tie as tie
 
 -- a line from byte i on, by the byte at i
-from : (s : List ℕ) (i : ℕ) → i < length s → bodyOf (drop i s) ≡ pick (eqb (getD s i 0) 10) 1 (suc (bodyOf (drop (suc i) s)))
+from : (s : List ℕ) (i : ℕ) → i < length s → bodyOf (drop i s) ≡ cond (eqb (getD s i 0) 10) 1 (suc (bodyOf (drop (suc i) s)))
 unfolding bodyOf
 from s i h = rw (drop-cons s i 0 h)
 
@@ -28,24 +29,12 @@ abbrev μ-loop : tie.MeasureT-loop
 loop-holds : tie.Need-loop-holds Inv-loop μ-loop
 loop-holds c = (search needs, omega arith)
 
-shared-slice-read-if1 : tie.Need-shared-slice-read-if1 Inv-loop μ-loop
-shared-slice-read-if1 c = search needs
-
-add-result : tie.Need-add-result Inv-loop μ-loop
-add-result c = search needs
-
 returns : tie.Need-returns Inv-loop μ-loop
 returns c =
     let s = c .before .before .before .before .args .text .now in
     let i = c .before .before .before .loop .i in
     let one : bodyOf (drop i s) ≡ 1 = rw (from s i (c .before .before .loop-test .taken), eq-eqb _ _ (c .if1 .taken)) in
     omega (arith, c .before .before .before .loop .inv .1)
-
-add-i : tie.Need-add-i Inv-loop μ-loop
-add-i c = search needs
-
-loop-less : tie.Need-loop-less Inv-loop μ-loop
-loop-less c = search needs
 
 loop-again : tie.Need-loop-again Inv-loop μ-loop
 loop-again c =
@@ -64,4 +53,4 @@ returns-2 c =
     omega (arith, c .before .loop .inv .1)
 
 pub body-spec : {M : Type 1} → statement M
-body-spec = tie.close (tie.spec Inv-loop μ-loop loop-holds shared-slice-read-if1 add-result returns add-i loop-less loop-again returns-2)
+body-spec = tie.close (tie.spec Inv-loop μ-loop loop-holds (λ c. search needs) (λ c. search needs) returns (λ c. search needs) (λ c. search needs) loop-again returns-2)

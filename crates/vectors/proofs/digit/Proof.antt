@@ -9,11 +9,8 @@ use Rattle.vectors.proofs.digit.Tie as tie
 returns : tie.Need-returns
 returns c = (simp (le-leb _ _ (c .if1 .taken)), omega arith)
 
-add-result : tie.Need-add-result
-add-result c = search needs
-
 returns-2 : tie.Need-returns-2
 returns-2 c = (simp (lt-leb _ _ (c .if1 .left)), omega arith)
 
 pub digit-spec : {M : Type 1} → statement M
-digit-spec = tie.close (tie.spec returns add-result returns-2)
+digit-spec = tie.close (tie.spec returns (λ c. search needs) returns-2)

@@ -34,23 +34,11 @@ module _ (w : ℕ) (high : 2 ^ 63 ≤ w) (fits : w < 2 ^ 64) where
       let whole : 2 ^ 64 - suc (below w) ≡ w = omega arith in
       toZ-ofZ w64 _ reads-fits ∙ reads ∙ sym (toZ-neg w64 (below w) small) ∙ ap (toZ w64) whole
 
-cast-result : tie.Need-cast-result
-cast-result c = search needs
-
-sub-result : tie.Need-sub-result
-sub-result c = search needs
-
-cast-result-2 : tie.Need-cast-result-2
-cast-result-2 c = search needs
-
 sub-result-2 : tie.Need-sub-result-2
 sub-result-2 c = reads-fits (c .before .args .w) (omega arith) (omega arith)
-
-returns : tie.Need-returns
-returns c = search needs
 
 returns-2 : tie.Need-returns-2
 returns-2 c = reads-back (c .before .args .w) (omega arith) (omega arith)
 
 pub signed-spec : {M : Type 1} → statement M
-signed-spec = tie.close (tie.spec cast-result sub-result cast-result-2 sub-result-2 returns returns-2)
+signed-spec = tie.close (tie.spec (λ c. search needs) (λ c. search needs) (λ c. search needs) sub-result-2 (λ c. search needs) returns-2)

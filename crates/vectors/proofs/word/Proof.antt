@@ -19,21 +19,6 @@ returns-2 c =
     let short : length (c .before .before .before .args .text .now) < c .before .before .before .args .at + 16 = omega arith in
     simp (lt-leb _ _ short)
 
-add-end : tie.Need-add-end
-add-end c = search needs
-
-sub-hex : tie.Need-sub-hex
-sub-hex c = search needs
-
-part-hex-start : tie.Need-part-hex-start
-part-hex-start c = search needs
-
-part-hex-end : tie.Need-part-hex-end
-part-hex-end c = search needs
-
-hex-requires : tie.Need-hex-requires
-hex-requires c κs = search needs
-
 returns-3 : tie.Need-returns-3
 returns-3 c =
     let at = c .before .before .before .before .before .args .at in
@@ -42,4 +27,4 @@ returns-3 c =
     simp (le-leb _ _ whole) (rw sixteen at (c .hex .ensures))
 
 pub word-spec : {M : Type 1} → statement M
-word-spec = tie.close (tie.spec returns returns-2 add-end sub-hex part-hex-start part-hex-end hex-requires returns-3)
+word-spec = tie.close (tie.spec returns returns-2 (λ c. search needs) (λ c. search needs) (λ c. search needs) (λ c. search needs) (λ c κs. search needs) returns-3)

@@ -1,44 +1,28 @@
 -- `vectors::words` meets its contract. At each turn, the entries passed are their words.
 -- Assumes nothing.
-use Prim.Native.Nat.{ℕ, _≤_, _<_, _-_, _+_, _*_}
-use mathlib.Core.Path.{_≡_, refl, sym}
+use Prim.Native.Nat.{_-_, _+_, _*_}
+use mathlib.Core.Path.{refl}
 use native.Mathlib.Omega.{arith}
 use borrow.Author.Count.{below-none}
 use borrow.Author.Needs.{needs}
-use lib.ListN.{length, getD, length-set}
-use lib.Seq.{length-take-le}
 use Rattle.vectors.specs.Words.{wordAt}
-use Rattle.vectors.proofs.Filled.{filled}
+use Rattle.vectors.proofs.Filled.{Filled, done, turn}
 use Rattle.vectors.proofs.words.Statement.{statement}
 use Rattle.vectors.proofs.words.Tie as tie
 
 abbrev Inv-loop : tie.InvT-loop
-Inv-loop text at n room₀ i₀ room i =
-    (i ≤ n) × (length room ≡ 64) × ((k : ℕ) → k < i → getD room k 0 ≡ wordAt text (at + 17 * k))
+Inv-loop text at n room₀ i₀ room i = Filled 0 (λ k. wordAt text (at + 17 * k)) n i room
 
 abbrev μ-loop : tie.MeasureT-loop
 μ-loop text at n room₀ i₀ room i = n - i
 
-loop-holds : tie.Need-loop-holds Inv-loop μ-loop
-loop-holds c = (search needs, refl, below-none _)
-
-loop-less : tie.Need-loop-less Inv-loop μ-loop
-loop-less c = omega arith
-
 loop-again : tie.Need-loop-again Inv-loop μ-loop
-loop-again c =
-    let start = c .before .before .before .before .args in
-    let here = c .before .before .loop in
-    (omega arith, simp length-set (here .inv .1), filled 0 (λ k. wordAt (start .text .now) (start .at + 17 * k)) (here .room) (here .i) (c .word .result) (omega arith) (here .inv .2) (c .word .ensures))
+loop-again c = turn (c .before .before .loop .inv) (c .before .before .before .before .pre .1) (c .word .ensures) (omega arith)
 
 returns : tie.Need-returns Inv-loop μ-loop
-returns c =
-    let here = c .before .loop in
-    let n = c .before .before .before .args .n in
-    let fits : n ≤ length (here .room) = omega arith in
-    ((fits, sym (length-take-le n (here .room) fits)), λ k below. here .inv .2 k (omega arith))
+returns c = done (c .before .loop .inv) (c .before .before .before .pre .1) (omega arith)
 
 pub words-spec : {M : Type 1} → statement M
 words-spec =
     tie.close
-    (tie.spec Inv-loop μ-loop loop-holds (λ c. omega arith) (λ c. omega arith) (λ c κs. search needs) (λ c. search needs) (λ c. search needs) (λ c. search needs) loop-less loop-again returns)
+    (tie.spec Inv-loop μ-loop (λ c. record { passed = search needs; size = refl; entries = below-none _ }) (λ c. omega arith) (λ c. omega arith) (λ c κs. search needs) (λ c. search needs) (λ c. search needs) (λ c. search needs) (λ c. omega arith) loop-again returns)

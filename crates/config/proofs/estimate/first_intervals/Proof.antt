@@ -1,13 +1,13 @@
 -- `estimate::first_intervals` meets its contract: the first n entries are the first n intervals.
 -- Assumes nothing.
 use Prim.Native.Nat.{ℕ, _≤_, _<_, _-_}
-use mathlib.Core.Path.{_≡_, refl, sym, ap, _∙_}
+use mathlib.Core.Path.{_≡_, refl, ap, _∙_}
 use mathlib.Core.List.{map, map-append}
 use native.Mathlib.Omega.{arith}
 use native.Mathlib.Numerals.{add-one}
 use borrow.Author.Needs.{needs}
 use lib.IntN.{pos}
-use lib.ListN.{length, take, set, length-set, length-take}
+use lib.ListN.{length, take, length-set, length-take}
 use lib.Seq.{take-all, take-suc, take-suc-set}
 use Rattle.config.specs.Estimate.{distances, intervalBits}
 use Rattle.config.proofs.Distances.{length-distances}
@@ -24,9 +24,6 @@ abbrev μ-loop : tie.MeasureT-loop
 loop-holds : tie.Need-loop-holds Inv-loop μ-loop
 loop-holds c = (search needs, c .before .pre .1, search needs, refl)
 
-add-if1 : tie.Need-add-if1 Inv-loop μ-loop
-add-if1 c = search needs
-
 same-length : tie.Need-same-length Inv-loop μ-loop
 same-length c = omega (arith, c .before .before .before .before .pre .1)
 
@@ -37,21 +34,6 @@ returns c =
     let all : n ≡ length ds = omega (arith, length-distances (c .before .before .before .before .args .timestamps .now)) in
     let short : length ds ≤ 20 = omega arith in
     rw (take-all 20 ds short) (all, (c .before .before .loop .inv .3) ∙ ap (map intervalBits) (take-all n ds (omega arith)))
-
-interval-bits-requires : tie.Need-interval-bits-requires Inv-loop μ-loop
-interval-bits-requires c κs = search needs
-
-mul-intervals : tie.Need-mul-intervals Inv-loop μ-loop
-mul-intervals c = search needs
-
-slice-write-intervals : tie.Need-slice-write-intervals Inv-loop μ-loop
-slice-write-intervals c = search needs
-
-add-n : tie.Need-add-n Inv-loop μ-loop
-add-n c = search needs
-
-loop-less : tie.Need-loop-less Inv-loop μ-loop
-loop-less c = search needs
 
 loop-again : tie.Need-loop-again Inv-loop μ-loop
 loop-again c =
@@ -78,4 +60,4 @@ returns-2 c =
 pub first-intervals-spec : {M : Type 1} → statement M
 first-intervals-spec =
     tie.close
-    (tie.spec Inv-loop μ-loop loop-holds add-if1 same-length returns interval-bits-requires mul-intervals slice-write-intervals add-n loop-less loop-again same-length-2 returns-2)
+    (tie.spec Inv-loop μ-loop loop-holds (λ c. search needs) same-length returns (λ c κs. search needs) (λ c. search needs) (λ c. search needs) (λ c. search needs) (λ c. search needs) loop-again same-length-2 returns-2)

@@ -1,6 +1,6 @@
 -- `estimate::get_scrape_interval` meets its contract: the quantile is taken of the first intervals, read back from their patterns.
 -- Assumes nothing.
-use Prim.Native.Nat.{ℕ, _^_, _≤_, _<_}
+use Prim.Native.Nat.{_≤_}
 use mathlib.Core.Path.{_≡_, refl, sym, ap, _∙_}
 use mathlib.Core.Bool.{false, false≢true}
 use mathlib.Core.List.{List, [], _∷_, map}
@@ -33,12 +33,6 @@ returns : tie.Need-returns
 unfolding estimateOf
 returns c = rw (lt-ltb _ _ (c .if1 .taken))
 
-slice-aggregate-first-intervals : tie.Need-slice-aggregate-first-intervals
-slice-aggregate-first-intervals c = search needs
-
-first-intervals-requires : tie.Need-first-intervals-requires
-first-intervals-requires c κs = search needs
-
 -- at most 20, in a slice of 20
 module _ (c : tie.After-first-intervals) where
   few : c .first-intervals .result ≤ 20
@@ -53,14 +47,8 @@ array-share-prefix-intervals c = room (c .before)
 slice-aggregate-quantile : tie.Need-slice-aggregate-quantile
 slice-aggregate-quantile c = simp length-take (omega (arith, room (c .before .before)))
 
-slice-aggregate-quantile-2 : tie.Need-slice-aggregate-quantile-2
-slice-aggregate-quantile-2 c = search needs
-
 quantile-requires : tie.Need-quantile-requires
 quantile-requires c κs = simp length-take (omega (arith, few (c .before .before .before)))
-
-to-i64-requires : tie.Need-to-i64-requires
-to-i64-requires c κs = search needs
 
 module _ (c : tie.After-to-i64) where
   abbrev ts : List ℤ
@@ -100,4 +88,4 @@ returns-3 c =
 pub get-scrape-interval-spec : {M : Type 1} → statement M
 get-scrape-interval-spec =
     tie.close
-    (tie.spec returns slice-aggregate-first-intervals first-intervals-requires array-share-prefix-intervals slice-aggregate-quantile slice-aggregate-quantile-2 quantile-requires to-i64-requires returns-2 cast-result returns-3)
+    (tie.spec returns (λ c. search needs) (λ c κs. search needs) array-share-prefix-intervals slice-aggregate-quantile (λ c. search needs) quantile-requires (λ c κs. search needs) returns-2 cast-result returns-3)

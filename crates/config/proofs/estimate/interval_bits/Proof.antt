@@ -17,21 +17,6 @@ use Rattle.config.proofs.Distances.{distance-at, within}
 use Rattle.config.proofs.estimate.interval_bits.Statement.{statement}
 use Rattle.config.proofs.estimate.interval_bits.Tie as tie
 
-add-of-difference : tie.Need-add-of-difference
-add-of-difference c = search needs
-
-mul-of-difference : tie.Need-mul-of-difference
-mul-of-difference c = search needs
-
-shared-slice-copy-out-of-difference : tie.Need-shared-slice-copy-out-of-difference
-shared-slice-copy-out-of-difference c = search needs
-
-mul-of-difference-2 : tie.Need-mul-of-difference-2
-mul-of-difference-2 c = omega arith
-
-shared-slice-copy-out-of-difference-2 : tie.Need-shared-slice-copy-out-of-difference-2
-shared-slice-copy-out-of-difference-2 c = omega arith
-
 module _ (c : tie.After-of-difference-arg2) where
   abbrev s : tie.Start
   s = c .before .before
@@ -53,12 +38,6 @@ module _ (c : tie.After-of-difference-arg2) where
 sub-of-difference : tie.Need-sub-of-difference
 sub-of-difference c = rw (toZ-ofZ (second c), toZ-ofZ (first c)) (distance c)
 
-of-difference-requires : tie.Need-of-difference-requires
-of-difference-requires c κs = search needs
-
-bits-of-requires : tie.Need-bits-of-requires
-bits-of-requires c κs = search needs
-
 returns : tie.Need-returns
 returns c =
     let d = c .before .before in
@@ -69,4 +48,4 @@ returns c =
 pub interval-bits-spec : {M : Type 1} → statement M
 interval-bits-spec =
     tie.close
-    (tie.spec add-of-difference mul-of-difference shared-slice-copy-out-of-difference mul-of-difference-2 shared-slice-copy-out-of-difference-2 sub-of-difference of-difference-requires bits-of-requires returns)
+    (tie.spec (λ c. search needs) (λ c. search needs) (λ c. search needs) (λ c. omega arith) (λ c. omega arith) sub-of-difference (λ c κs. search needs) (λ c κs. search needs) returns)

@@ -1,23 +1,14 @@
 -- `reach::adjusted_window` meets its contract, case by case.
 -- Assumes nothing.
-use mathlib.Core.Path.{ap, _∙_}
 use borrow.Author.Needs.{needs}
 use borrow.Author.Tests.{lt-ltb, le-ltb}
 use Rattle.config.specs.Reach.{windowOf}
 use Rattle.config.proofs.reach.adjusted_window.Statement.{statement}
 use Rattle.config.proofs.reach.adjusted_window.Tie as tie
-use Rattle.config.proofs.reach.adjusted_window.Reads as reads
-use Rattle.config.proofs.reach.adjusted_window.Lts as lts
 
 returns : tie.Need-returns
 unfolding windowOf
 returns c = rw (lt-ltb _ _ (c .if1 .taken))
-
-raised-step-requires : tie.Need-raised-step-requires
-raised-step-requires c κs = search needs
-
-capped-requires : tie.Need-capped-requires
-capped-requires c κs = search needs
 
 returns-2 : tie.Need-returns-2
 unfolding windowOf
@@ -28,4 +19,4 @@ unfolding windowOf
 returns-3 c = rw (le-ltb _ _ (c .before .before .if1 .left), c .if2 .left) (c .before .raised-step .ensures)
 
 pub adjusted-window-spec : {M : Type 1} → statement M
-adjusted-window-spec = tie.close (tie.spec returns raised-step-requires capped-requires returns-2 returns-3)
+adjusted-window-spec = tie.close (tie.spec returns (λ c κs. search needs) (λ c κs. search needs) returns-2 returns-3)

@@ -6,9 +6,6 @@ use Rattle.config.specs.Reach.{boundedReach}
 use Rattle.config.proofs.reach.bounded_reach.Statement.{statement}
 use Rattle.config.proofs.reach.bounded_reach.Tie as tie
 
-capped-requires : tie.Need-capped-requires
-capped-requires c κs = search needs
-
 returns : tie.Need-returns
 unfolding boundedReach
 returns c = omega arith
@@ -18,4 +15,4 @@ unfolding boundedReach
 returns-2 c = omega arith
 
 pub bounded-reach-spec : {M : Type 1} → statement M
-bounded-reach-spec = tie.close (tie.spec capped-requires returns returns-2)
+bounded-reach-spec = tie.close (tie.spec (λ c κs. search needs) returns returns-2)

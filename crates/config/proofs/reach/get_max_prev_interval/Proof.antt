@@ -6,43 +6,25 @@ use Rattle.config.specs.Reach.{reachOf}
 use Rattle.config.proofs.reach.get_max_prev_interval.Statement.{statement}
 use Rattle.config.proofs.reach.get_max_prev_interval.Tie as tie
 
-mul-result : tie.Need-mul-result
-mul-result c = search needs
-
 returns : tie.Need-returns
 unfolding reachOf
 returns c = rw (le-leb _ _ (c .if1 .taken))
-
-mul-result-2 : tie.Need-mul-result-2
-mul-result-2 c = search needs
 
 returns-2 : tie.Need-returns-2
 unfolding reachOf
 returns-2 c = rw (lt-leb _ _ (c .before .if1 .left), le-leb _ _ (c .if2 .taken))
 
-mul-result-3 : tie.Need-mul-result-3
-mul-result-3 c = search needs
-
 returns-3 : tie.Need-returns-3
 unfolding reachOf
 returns-3 c = rw (lt-leb _ _ (c .before .before .if1 .left), lt-leb _ _ (c .before .if2 .left), le-leb _ _ (c .if3 .taken))
-
-add-result : tie.Need-add-result
-add-result c = search needs
 
 returns-4 : tie.Need-returns-4
 unfolding reachOf
 returns-4 c = rw (lt-leb _ _ (c .before .before .before .if1 .left), lt-leb _ _ (c .before .before .if2 .left), lt-leb _ _ (c .before .if3 .left), le-leb _ _ (c .if4 .taken))
 
-add-result-2 : tie.Need-add-result-2
-add-result-2 c = search needs
-
 returns-5 : tie.Need-returns-5
 unfolding reachOf
 returns-5 c = rw (lt-leb _ _ (c .before .before .before .before .if1 .left), lt-leb _ _ (c .before .before .before .if2 .left), lt-leb _ _ (c .before .before .if3 .left), lt-leb _ _ (c .before .if4 .left), le-leb _ _ (c .if5 .taken))
-
-add-result-3 : tie.Need-add-result-3
-add-result-3 c = search needs
 
 returns-6 : tie.Need-returns-6
 unfolding reachOf
@@ -51,4 +33,4 @@ returns-6 c = rw (lt-leb _ _ (c .before .before .before .before .if1 .left), lt-
 pub get-max-prev-interval-spec : {M : Type 1} → statement M
 get-max-prev-interval-spec =
     tie.close
-    (tie.spec mul-result returns mul-result-2 returns-2 mul-result-3 returns-3 add-result returns-4 add-result-2 returns-5 add-result-3 returns-6)
+    (tie.spec (λ c. search needs) returns (λ c. search needs) returns-2 (λ c. search needs) returns-3 (λ c. search needs) returns-4 (λ c. search needs) returns-5 (λ c. search needs) returns-6)

@@ -61,13 +61,4 @@ returns-4 c =
 pub check-ranges-spec : {M : Type 1} → statement M
 check-ranges-spec =
     tie.close
-    (tie.spec
-    (λ c κs. search needs)
-    (λ c. search needs)
-    returns
-    (λ c. search needs)
-    (λ c κs. search needs)
-    returns-2
-    (λ c κs. search needs)
-    returns-3
-    returns-4)
+    (tie.spec (λ c κs. search needs) (λ c. search needs) returns (λ c. search needs) (λ c κs. search needs) returns-2 (λ c κs. search needs) returns-3 returns-4)

@@ -66,12 +66,4 @@ returns-3 c =
 pub check-settings-spec : {M : Type 1} → statement M
 check-settings-spec =
     tie.close
-    (tie.spec
-    (λ c κs. search needs)
-    (λ c. search needs)
-    returns
-    (λ c. search needs)
-    is-over-point-limit-requires
-    returns-2
-    check-points-requires
-    returns-3)
+    (tie.spec (λ c κs. search needs) (λ c. search needs) returns (λ c. search needs) is-over-point-limit-requires returns-2 check-points-requires returns-3)

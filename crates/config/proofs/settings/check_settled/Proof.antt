@@ -71,13 +71,4 @@ returns-4 c =
 pub check-settled-spec : {M : Type 1} → statement M
 check-settled-spec =
     tie.close
-    (tie.spec
-    (λ c κs. search needs)
-    (λ c. search needs)
-    returns
-    (λ c. search needs)
-    (λ c κs. search needs)
-    returns-2
-    returns-3
-    check-points-requires
-    returns-4)
+    (tie.spec (λ c κs. search needs) (λ c. search needs) returns (λ c. search needs) (λ c κs. search needs) returns-2 returns-3 check-points-requires returns-4)

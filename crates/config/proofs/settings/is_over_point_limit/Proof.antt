@@ -3,18 +3,17 @@
 use Prim.Native.Nat.{ℕ, _+_, _^_, _<_, _≤_}
 use native.Mathlib.Omega.{arith}
 use native.Mathlib.Nat.{div-le-self}
-use mathlib.Core.Path.{_≡_, sym, _∙_}
+use mathlib.Core.Path.{_≡_}
 use mathlib.Core.Bool.{true, false≢true}
-use borrow.Author.Tests.{le-leb}
 use lib.Dec.{lit≤}
-use lib.IntN.{ℤ, pos, negsuc, natAbs, _+ℤ_, _-ℤ_}
-use lib.Signed.{leZ, ltZ, quotZ}
+use lib.IntN.{ℤ, pos, negsuc, _+ℤ_, _-ℤ_}
+use lib.Signed.{leZ, quotZ}
 use mir.Syntax.{w64}
 use mir.Val.{SFits, toZ, ofZ}
 use mir.Facts.{toZ-ofZ}
 use Rattle.times.specs.Milli.{Within}
 use Rattle.times.proofs.Order.{offset-of}
-use Rattle.times.proofs.Milli.{within-add, within-sub, within-fits, read}
+use Rattle.times.proofs.Milli.{within-add, within-sub, within-fits}
 use Rattle.config.specs.Rows.{overPointLimit}
 use Rattle.config.proofs.settings.is_over_point_limit.Statement.{statement}
 use Rattle.config.proofs.settings.is_over_point_limit.Tie as tie

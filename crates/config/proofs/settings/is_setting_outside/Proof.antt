@@ -10,18 +10,12 @@ use Rattle.config.specs.Rows.{outside, settingOutside}
 use Rattle.config.proofs.settings.is_setting_outside.Statement.{statement}
 use Rattle.config.proofs.settings.is_setting_outside.Tie as tie
 
-is-outside-requires : tie.Need-is-outside-requires
-is-outside-requires c κs = search needs
-
 returns : tie.Need-returns
 unfolding settingOutside
 returns c = rw (sym (rw (toZ-ofZ (c .before .before .fits .lookback-delta)) at (c .before .is-outside .ensures)) ∙ c .if1 .taken)
 
 lookback-inside : (c : tie.Else1) → outside (pos 0) (pos timeLimit) (c .before .before .args .lookback-delta) ≡ false
 lookback-inside c = sym (rw (toZ-ofZ (c .before .before .fits .lookback-delta)) at (c .before .is-outside .ensures)) ∙ c .if1 .left
-
-is-outside-requires-2 : tie.Need-is-outside-requires-2
-is-outside-requires-2 c κs = search needs
 
 returns-2 : tie.Need-returns-2
 unfolding settingOutside
@@ -33,9 +27,6 @@ staleness-inside : (c : tie.Else2) → outside (pos 0) (pos timeLimit) (c .befor
 staleness-inside c =
     let s = c .before .before .before .before in
     sym (rw (toZ-ofZ (s .fits .min-staleness-interval)) at (c .before .is-outside2 .ensures)) ∙ c .if2 .left
-
-is-outside-requires-3 : tie.Need-is-outside-requires-3
-is-outside-requires-3 c κs = search needs
 
 returns-3 : tie.Need-returns-3
 unfolding settingOutside
@@ -53,4 +44,4 @@ returns-4 c =
 
 pub is-setting-outside-spec : {M : Type 1} → statement M
 is-setting-outside-spec =
-    tie.close (tie.spec is-outside-requires returns is-outside-requires-2 returns-2 is-outside-requires-3 returns-3 returns-4)
+    tie.close (tie.spec (λ c κs. search needs) returns (λ c κs. search needs) returns-2 (λ c κs. search needs) returns-3 returns-4)

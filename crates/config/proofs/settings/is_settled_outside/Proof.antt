@@ -7,15 +7,9 @@ use Rattle.config.specs.Rows.{settledOutside}
 use Rattle.config.proofs.settings.is_settled_outside.Statement.{statement}
 use Rattle.config.proofs.settings.is_settled_outside.Tie as tie
 
-is-outside-requires : tie.Need-is-outside-requires
-is-outside-requires c κs = search needs
-
 returns : tie.Need-returns
 unfolding settledOutside
 returns c = rw (sym (rw (toZ-ofZ (c .before .before .fits .window)) at (c .before .is-outside .ensures)) ∙ c .if1 .taken)
-
-is-outside-requires-2 : tie.Need-is-outside-requires-2
-is-outside-requires-2 c κs = search needs
 
 returns-2 : tie.Need-returns-2
 unfolding settledOutside
@@ -25,4 +19,4 @@ returns-2 c =
     (rw (toZ-ofZ (s .fits .reach)) at (c .is-outside2 .ensures))
 
 pub is-settled-outside-spec : {M : Type 1} → statement M
-is-settled-outside-spec = tie.close (tie.spec is-outside-requires returns is-outside-requires-2 returns-2)
+is-settled-outside-spec = tie.close (tie.spec (λ c κs. search needs) returns (λ c κs. search needs) returns-2)

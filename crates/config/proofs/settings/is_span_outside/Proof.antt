@@ -12,24 +12,12 @@ use Rattle.config.specs.Rows.{outside, spanOutside}
 use Rattle.config.proofs.settings.is_span_outside.Statement.{statement}
 use Rattle.config.proofs.settings.is_span_outside.Tie as tie
 
-sub-is-outside : tie.Need-sub-is-outside
-sub-is-outside c = search needs
-
-is-outside-requires : tie.Need-is-outside-requires
-is-outside-requires c κs = search needs
-
 returns : tie.Need-returns
 unfolding spanOutside
 returns c = rw (sym (rw (toZ-ofZ (c .before .before .fits .start)) at (c .before .is-outside .ensures)) ∙ c .if1 .taken)
 
 start-inside : (c : tie.Else1) → outside (negℤ (pos timeLimit)) (pos timeLimit) (c .before .before .args .start) ≡ false
 start-inside c = sym (rw (toZ-ofZ (c .before .before .fits .start)) at (c .before .is-outside .ensures)) ∙ c .if1 .left
-
-sub-is-outside-2 : tie.Need-sub-is-outside-2
-sub-is-outside-2 c = search needs
-
-is-outside-requires-2 : tie.Need-is-outside-requires-2
-is-outside-requires-2 c κs = search needs
 
 returns-2 : tie.Need-returns-2
 unfolding spanOutside
@@ -46,4 +34,4 @@ returns-3 c =
 
 pub is-span-outside-spec : {M : Type 1} → statement M
 is-span-outside-spec =
-    tie.close (tie.spec sub-is-outside is-outside-requires returns sub-is-outside-2 is-outside-requires-2 returns-2 returns-3)
+    tie.close (tie.spec (λ c. search needs) (λ c κs. search needs) returns (λ c. search needs) (λ c κs. search needs) returns-2 returns-3)

@@ -1,6 +1,5 @@
 -- `settle::settle_accepted` meets its contract: each call's answer is the definition's of the answers before, and accepted settings fit the casts.
 -- Assumes nothing.
-use Prim.Native.Nat.{ℕ, _^_, _≤_, _<_}
 use mathlib.Core.Path.{_≡_}
 use mathlib.Core.List.{List}
 use native.Mathlib.Omega.{arith}
@@ -15,7 +14,7 @@ use Rattle.config.specs.declared.settings.RollupConfig.{RollupConfig}
 use Rattle.config.specs.Settle.{settledReach, settledWindow}
 use Rattle.config.proofs.Distances.{not-falling, within}
 use Rattle.config.proofs.Estimates.{estimate-small}
-use Rattle.config.proofs.Limits.{Settleable, reach-in, window-in}
+use Rattle.config.proofs.Limits.{reach-in, window-in}
 use Rattle.config.proofs.Passed.{Passed, up-to-fits, castable, settings-passed}
 use Rattle.config.proofs.settle.settle_accepted.Statement.{statement}
 use Rattle.config.proofs.settle.settle_accepted.Tie as tie
@@ -30,9 +29,6 @@ module _ (c : tie.Start) where
   passed : Passed rc
   passed = settings-passed rc (c .pre .1)
 
-get-scrape-interval-requires : tie.Need-get-scrape-interval-requires
-get-scrape-interval-requires c κs = search needs
-
 get-max-prev-interval-requires : tie.Need-get-max-prev-interval-requires
 get-max-prev-interval-requires c κs =
     let s = c .before in
@@ -43,9 +39,6 @@ cast-lookback-delta c = castable (passed (c .before .before .before .before) .lo
 
 cast-min-staleness-interval : tie.Need-cast-min-staleness-interval
 cast-min-staleness-interval c = castable (passed (c .before .before .before .before .before .before) .staleness)
-
-bounded-reach-requires : tie.Need-bounded-reach-requires
-bounded-reach-requires c κs = search needs
 
 module _ (c : tie.After-bounded-reach) where
   abbrev s : tie.Start
@@ -62,9 +55,6 @@ cast-given c = castable (passed (s (c .before .before)) .window)
 
 cast-step : tie.Need-cast-step
 cast-step c = castable (passed (s (c .before .before .before .before)) .step)
-
-adjusted-window-requires : tie.Need-adjusted-window-requires
-adjusted-window-requires c κs = search needs
 
 module _ (c : tie.After-adjusted-window) where
   abbrev b : tie.After-bounded-reach
@@ -103,4 +93,4 @@ returns c =
 pub settle-accepted-spec : {M : Type 1} → statement M
 settle-accepted-spec =
     tie.close
-    (tie.spec get-scrape-interval-requires get-max-prev-interval-requires cast-lookback-delta cast-min-staleness-interval bounded-reach-requires cast-given cast-step adjusted-window-requires cast-t11 cast-t12 points-requires returns)
+    (tie.spec (λ c κs. search needs) get-max-prev-interval-requires cast-lookback-delta cast-min-staleness-interval (λ c κs. search needs) cast-given cast-step (λ c κs. search needs) cast-t11 cast-t12 points-requires returns)

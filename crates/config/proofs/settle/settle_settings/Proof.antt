@@ -1,21 +1,12 @@
 -- `settle::settle_settings` meets its contract: it goes through rows 6 to 11 and settles what they let pass.
 -- Assumes nothing.
-use mathlib.Core.Path.{_≡_, sym, _∙_}
+use mathlib.Core.Path.{sym, _∙_}
 use borrow.Author.Needs.{needs}
 use Rattle.config.proofs.settle.settle_settings.Statement.{statement}
 use Rattle.config.proofs.settle.settle_settings.Tie as tie
 
-check-settings-requires : tie.Need-check-settings-requires
-check-settings-requires c κs = search needs
-
-enum-known-checked : tie.Need-enum-known-checked
-enum-known-checked c = search needs
-
 returns : tie.Need-returns
 returns c = rw (← c .before .before .before .check-settings .ensures, c .before .checked .given .1)
-
-enum-told : tie.Need-enum-told
-enum-told c = search needs
 
 settle-accepted-requires : tie.Need-settle-accepted-requires
 settle-accepted-requires c κs =
@@ -28,4 +19,4 @@ returns-2 c =
     rw (← d .before .before .check-settings .ensures, d .enum-told .given .1) (c .settle-accepted .ensures)
 
 pub settle-settings-spec : {M : Type 1} → statement M
-settle-settings-spec = tie.close (tie.spec check-settings-requires enum-known-checked returns enum-told settle-accepted-requires returns-2)
+settle-settings-spec = tie.close (tie.spec (λ c κs. search needs) (λ c. search needs) returns (λ c. search needs) settle-accepted-requires returns-2)

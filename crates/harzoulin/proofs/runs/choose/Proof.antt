@@ -5,26 +5,8 @@ use borrow.Author.Needs.{needs}
 use Rattle.harzoulin.proofs.runs.choose.Statement.{statement}
 use Rattle.harzoulin.proofs.runs.choose.Tie as tie
 
-step-of-requires : tie.Need-step-of-requires
-step-of-requires c κs = search needs
-
-enum-known-step : tie.Need-enum-known-step
-enum-known-step c = search needs
-
-enum-told : tie.Need-enum-told
-enum-told c = search needs
-
 returns : tie.Need-returns
 returns c = rw (sym (c .before .before .step-of .ensures) ∙ c .enum-told .given .1)
-
-rollup-of-requires : tie.Need-rollup-of-requires
-rollup-of-requires c κs = search needs
-
-enum-known-chosen : tie.Need-enum-known-chosen
-enum-known-chosen c = search needs
-
-enum-told-2 : tie.Need-enum-told-2
-enum-told-2 c = search needs
 
 returns-2 : tie.Need-returns-2
 returns-2 c =
@@ -41,4 +23,4 @@ returns-3 c =
 pub choose-spec : {M : Type 1} → statement M
 choose-spec =
     tie.close
-    (tie.spec step-of-requires enum-known-step enum-told returns rollup-of-requires enum-known-chosen enum-told-2 returns-2 returns-3)
+    (tie.spec (λ c κs. search needs) (λ c. search needs) (λ c. search needs) returns (λ c κs. search needs) (λ c. search needs) (λ c. search needs) returns-2 returns-3)

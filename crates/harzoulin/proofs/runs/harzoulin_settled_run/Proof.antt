@@ -9,62 +9,17 @@ use Rattle.harzoulin.proofs.Settings.{same-settled-config}
 use Rattle.harzoulin.proofs.runs.harzoulin_settled_run.Statement.{statement}
 use Rattle.harzoulin.proofs.runs.harzoulin_settled_run.Tie as tie
 
-choose-requires : tie.Need-choose-requires
-choose-requires c κs = search needs
-
-enum-known-choice : tie.Need-enum-known-choice
-enum-known-choice c = search needs
-
-enum-told : tie.Need-enum-told
-enum-told c = search needs
-
-refuse-requires : tie.Need-refuse-requires
-refuse-requires c κs = search needs
-
-returns : tie.Need-returns
-returns c =
-    let e = sym (c .before .before .before .before .choose .ensures) ∙ c .before .before .enum-told .given .1 in
-    rw e (cc (c .refuse .ensures .0, c .refuse .ensures .1))
-
-settled-run-requires : tie.Need-settled-run-requires
-settled-run-requires c κs = search needs
-
-reply-requires : tie.Need-reply-requires
-reply-requires c κs = search needs
-
-same-length : tie.Need-same-length
-same-length c = search needs
-
-same-length-2 : tie.Need-same-length-2
-same-length-2 c = search needs
-
-same-length-3 : tie.Need-same-length-3
-same-length-3 c = search needs
-
 returns-2 : tie.Need-returns-2
 returns-2 c =
     let x = c .before .before .before .before .before .before .before .before .before in
     let s = x .before .before .before .before .before .before .before .before .before .before .before .before in
     let named = x .before .before .before .before .before .choice .given in
-    let e = sym (x .before .before .before .before .before .before .before .choose .ensures) ∙ named .1 in
     let l = lent (s .args .dst-values .now) (s .args .prepared .now) (s .args .work .now) in
     let config = same-settled-config (s .fits .start) (s .fits .end) (s .fits .step) (s .fits .window) (s .args .samples-scanned-per-call) (s .fits .reach) in
-    let done =
-    x .settled-run .ensures ∙ ap (λ (settings : SettledConfig). settledRunOf (s .args .timestamps .now) (s .args .values .now) (named .0 .0) (named .0 .1 .0) settings l) config in
-    rw e (crosses (s .args .count .now) done (c .reply .ensures .0) (c .reply .ensures .1 .0) (c .reply .ensures .1 .1))
+    rw (sym (x .before .before .before .before .before .before .before .choose .ensures) ∙ named .1)
+    (crosses (s .args .count .now) (x .settled-run .ensures ∙ ap (λ (settings : SettledConfig). settledRunOf (s .args .timestamps .now) (s .args .values .now) (named .0 .0) (named .0 .1 .0) settings l) config) (c .reply .ensures .0) (c .reply .ensures .1 .0) (c .reply .ensures .1 .1))
 
 pub harzoulin-settled-run-spec : {M : Type 1} → statement M
 harzoulin-settled-run-spec =
     tie.close
-    (tie.spec
-    choose-requires
-    enum-known-choice
-    enum-told
-    refuse-requires
-    returns
-    settled-run-requires
-    reply-requires
-    same-length
-    same-length-2
-    same-length-3
-    returns-2)
+    (tie.spec (λ c κs. search needs) (λ c. search needs) (λ c. search needs) (λ c κs. search needs) (λ c. rw (sym (c .before .before .before .before .choose .ensures) ∙ c .before .before .enum-told .given .1) (cc (c .refuse .ensures .0, c .refuse .ensures .1))) (λ c κs. search needs) (λ c κs. search needs) (λ c. search needs) (λ c. search needs) (λ c. search needs) returns-2)

@@ -13,18 +13,6 @@ use Rattle.harzoulin.proofs.Settings.{same-config}
 use Rattle.harzoulin.proofs.settle.harzoulin_settle.Statement.{statement}
 use Rattle.harzoulin.proofs.settle.harzoulin_settle.Tie as tie
 
-settle-requires : tie.Need-settle-requires
-settle-requires c κs = search needs
-
-enum-known-settled : tie.Need-enum-known-settled
-enum-known-settled c = search needs
-
-refuse-requires : tie.Need-refuse-requires
-refuse-requires c κs = search needs
-
-enum-known-settled-2 : tie.Need-enum-known-settled-2
-enum-known-settled-2 c = search needs
-
 module _ (c : tie.After-settle) where
   abbrev s : tie.Start
   s = c .before
@@ -57,10 +45,4 @@ returns-2 c =
 pub harzoulin-settle-spec : {M : Type 1} → statement M
 harzoulin-settle-spec =
     tie.close
-    (tie.spec
-    settle-requires
-    enum-known-settled
-    refuse-requires
-    enum-known-settled-2
-    returns
-    returns-2)
+    (tie.spec (λ c κs. search needs) (λ c. search needs) (λ c κs. search needs) (λ c. search needs) returns returns-2)

@@ -5,12 +5,6 @@ use borrow.Author.Tests.{eq-eqb, ne-eqb}
 use Rattle.replay.proofs.Tally.differed.Statement.{statement}
 use Rattle.replay.proofs.Tally.differed.Tie as tie
 
-add-self : tie.Need-add-self
-add-self c = search needs
-
-add-self-2 : tie.Need-add-self-2
-add-self-2 c = search needs
-
 returns : tie.Need-returns
 returns c = simp (eq-eqb _ _ (c .if1 .taken))
 
@@ -18,4 +12,4 @@ returns-2 : tie.Need-returns-2
 returns-2 c = simp (ne-eqb _ _ (c .if1 .left))
 
 pub differed-spec : {M : Type 1} → statement M
-differed-spec = tie.close (tie.spec add-self add-self-2 returns returns-2)
+differed-spec = tie.close (tie.spec (λ c. search needs) (λ c. search needs) returns returns-2)

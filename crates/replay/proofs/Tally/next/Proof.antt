@@ -15,39 +15,18 @@ use Rattle.replay.proofs.Tally.next.Tie as tie
 differs : {t : Tally} {n : ℕ} {c : Case} {r : Tally} (end : ℕ) → Counted t → t .at < end → r ≡ differed t end → nextOf t n c ≡ differed t end → After t n c r
 differs end h l e f = record { exact = cc; counted = rw e (record { among = omega arith; bytes = omega arith }); later = rw e l }
 
-differed-requires : tie.Need-differed-requires
-differed-requires c κs = search needs
-
 returns : tie.Need-returns
 returns c = differs _ (search needs) (search needs) (c .differed .ensures) (simp (eq-eqb _ _ (c .before .if1 .taken)))
-
-sub-if2 : tie.Need-sub-if2
-sub-if2 c = search needs
-
-differed-requires-2 : tie.Need-differed-requires-2
-differed-requires-2 c κs = search needs
 
 returns-2 : tie.Need-returns-2
 returns-2 c =
     differs _ (search needs) (search needs) (c .differed2 .ensures)
     (simp (ne-eqb _ _ (c .before .before .before .before .if1 .left), lt-ltb _ _ (c .before .if2 .taken)))
 
-add-self : tie.Need-add-self
-add-self c = search needs
-
-add-self-2 : tie.Need-add-self-2
-add-self-2 c = search needs
-
 returns-3 : tie.Need-returns-3
 returns-3 c =
     let whole = c .before .before .before .before in
     record { exact = simp (ne-eqb _ _ (whole .before .before .before .if1 .left), le-ltb _ _ (whole .if2 .left), c .before .before .before .if3 .taken); counted = record { among = omega arith; bytes = omega arith }; later = omega arith }
-
-add-differed : tie.Need-add-differed
-add-differed c = search needs
-
-differed-requires-3 : tie.Need-differed-requires-3
-differed-requires-3 c κs = search needs
 
 returns-4 : tie.Need-returns-4
 returns-4 c =
@@ -58,4 +37,4 @@ returns-4 c =
 pub next-spec : {M : Type 1} → statement M
 next-spec =
     tie.close
-    (tie.spec differed-requires returns sub-if2 differed-requires-2 returns-2 add-self add-self-2 returns-3 add-differed differed-requires-3 returns-4)
+    (tie.spec (λ c κs. search needs) returns (λ c. search needs) (λ c κs. search needs) returns-2 (λ c. search needs) (λ c. search needs) returns-3 (λ c. search needs) (λ c κs. search needs) returns-4)

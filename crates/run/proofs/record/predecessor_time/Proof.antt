@@ -29,15 +29,6 @@ returns-2 c =
     let some-before : 0 < i = omega arith in
     toZ-ofZ w64 _ (c .before .before .fits .limit) ∙ simp (lt-ltb 0 i some-before, le-ltb _ _ (c .if2 .taken))
 
-sub-prev-ts : tie.Need-sub-prev-ts
-sub-prev-ts c = search needs
-
-mul-prev-ts : tie.Need-mul-prev-ts
-mul-prev-ts c = search needs
-
-shared-slice-copy-out-prev-ts : tie.Need-shared-slice-copy-out-prev-ts
-shared-slice-copy-out-prev-ts c = search needs
-
 module _ (us : List ℤ) (i : ℕ) (limit : ℤ) (before : 0 < i) (at : i < length us) where
   abbrev u : ℤ
   u = getD us (i - 1) (pos 0)
@@ -62,11 +53,4 @@ returns-4 c =
 pub predecessor-time-spec : {M : Type 1} → statement M
 predecessor-time-spec =
     tie.close
-    (tie.spec
-    returns
-    returns-2
-    sub-prev-ts
-    mul-prev-ts
-    shared-slice-copy-out-prev-ts
-    returns-3
-    returns-4)
+    (tie.spec returns returns-2 (λ c. search needs) (λ c. search needs) (λ c. search needs) returns-3 returns-4)

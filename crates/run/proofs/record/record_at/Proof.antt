@@ -16,18 +16,6 @@ sub-t-start c = let t = c .before .before .pre .1 .1 in start-fits (t .time) (t 
 sub-limit : tie.Need-sub-limit
 sub-limit c = let t = c .before .before .before .before .pre .1 .1 in limit-fits (t .time) (t .lengths .window) (t .lengths .reach)
 
-predecessor-time-requires : tie.Need-predecessor-time-requires
-predecessor-time-requires c κs = search needs
-
-value-before-requires : tie.Need-value-before-requires
-value-before-requires c κs = search needs
-
-value-if-requires : tie.Need-value-if-requires
-value-if-requires c κs = search needs
-
-value-at-requires : tie.Need-value-at-requires
-value-at-requires c κs = search needs
-
 returns : tie.Need-returns
 returns c =
     let s = c .before .before .before .before .before .before .before .before in
@@ -53,11 +41,4 @@ returns c =
 pub record-at-spec : {M : Type 1} → statement M
 record-at-spec =
     tie.close
-    (tie.spec
-    sub-t-start
-    sub-limit
-    predecessor-time-requires
-    value-before-requires
-    value-if-requires
-    value-at-requires
-    returns)
+    (tie.spec sub-t-start sub-limit (λ c κs. search needs) (λ c κs. search needs) (λ c κs. search needs) (λ c κs. search needs) returns)

@@ -1,7 +1,6 @@
 -- `run::record::value_if` meets its contract: each branch is a case of the definition.
 -- Assumes nothing.
-use mathlib.Core.Path.{_≡_, sym, _∙_}
-use mathlib.Core.Bool.{true, false}
+use mathlib.Core.Path.{sym, _∙_}
 use lib.Ieee.{div, ofBits}
 use lib.Signed.{ltZ}
 use Rattle.times.proofs.Milli.{read}

@@ -11,7 +11,7 @@ use lib.Ieee.{Float, nan, div, ofBits}
 use Rattle.times.proofs.Milli.{read-back}
 use Rattle.ieee.specs.Patterns.{patterns}
 use Rattle.series.specs.Steps.{wholeSeconds, intervalsFrom, secondTwice}
-use Rattle.series.proofs.Written.{Written, turn, done, first-left}
+use Rattle.series.proofs.Written.{Written, turn, done, left-at}
 use Rattle.series.proofs.steps.calc_sample_intervals_pre_fn.Statement.{statement}
 use Rattle.series.proofs.steps.calc_sample_intervals_pre_fn.Tie as tie
 
@@ -50,7 +50,7 @@ loop-again c =
     let ts = at-loop .before .before .args .timestamps .now in
     let i = at-loop .loop .i in
     let read = c .before .whole-seconds .ensures ∙ ap wholeSeconds (read-back (getD ts i (pos 0)) (c .before .before .whole-seconds-arg .given)) in
-    turn (omega arith) (rw (first-left ts i (pos 0) (omega arith), ← read) at (at-loop .loop .inv)) (c .bits-of .ensures)
+    turn (omega arith) (rw (left-at ts i (pos 0) (omega arith), ← read) at (at-loop .loop .inv)) (c .bits-of .ensures)
 
 returns : tie.Need-returns Inv-loop μ-loop
 returns c = let e = written (c .before .before) in rw e (second (intervalsFrom nan (c .before .before .before .before .before .args .timestamps .now)) (rw e at (c .before .if1 .taken)))

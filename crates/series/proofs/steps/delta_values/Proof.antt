@@ -11,7 +11,7 @@ use lib.Ieee.Scale.{finite}
 use Rattle.ieee.specs.Patterns.{floats, patterns}
 use Rattle.series.specs.Steps.{deltas, deltasFrom}
 use Rattle.series.proofs.Numbers.{finite-number, sub-number}
-use Rattle.series.proofs.Written.{Written, turn, last, first-left}
+use Rattle.series.proofs.Written.{Written, turn, last, left-at}
 use Rattle.series.proofs.steps.delta_values.Statement.{statement}
 use Rattle.series.proofs.steps.delta_values.Tie as tie
 
@@ -35,7 +35,7 @@ loop-holds : tie.Need-loop-holds Inv-loop μ-loop
 unfolding floats deltas ofBits isNan
 loop-holds c =
     let start = c .before .before .before .before in
-    (search needs, c .read .ensures .1, refl, record { size = start .pre .0; parts = rw (c .read .ensures .0, first-left (start .args .values .now) 0 0 (omega arith)) })
+    (search needs, c .read .ensures .1, refl, record { size = start .pre .0; parts = rw (c .read .ensures .0, left-at (start .args .values .now) 0 0 (omega arith)) })
 
 read-requires-2 : tie.Need-read-requires-2 Inv-loop μ-loop
 read-requires-2 c κs = (c .before .before .before .before .before .before .pre .1, search needs)
@@ -51,7 +51,7 @@ loop-again : tie.Need-loop-again Inv-loop μ-loop
 unfolding floats deltasFrom
 loop-again c =
     let at-loop = c .before .before .before in
-    let left = first-left (at-loop .before .before .before .before .before .args .values .now) (at-loop .loop .j + 1) 0 (omega arith) in
+    let left = left-at (at-loop .before .before .before .before .before .args .values .now) (at-loop .loop .j + 1) 0 (omega arith) in
     (search needs, c .before .read2 .ensures .1, difference (c .before), turn (omega arith) (rw (left, ← c .before .read2 .ensures .0) at (at-loop .loop .inv .3)) (c .number-bits .ensures))
 
 number-bits-requires-2 : tie.Need-number-bits-requires-2 Inv-loop μ-loop

@@ -15,7 +15,7 @@ use Rattle.series.specs.declared.steps.Slope.{Slope}
 use Rattle.ieee.specs.Patterns.{floats, patterns}
 use Rattle.series.specs.Steps.{derivs, derivsFrom, sloped}
 use Rattle.series.proofs.Times.{within-all}
-use Rattle.series.proofs.Written.{Written, turn, last, first-left}
+use Rattle.series.proofs.Written.{Written, turn, last, left-at}
 use Rattle.series.proofs.steps.deriv_values.Statement.{statement}
 use Rattle.series.proofs.steps.deriv_values.Tie as tie
 
@@ -46,7 +46,7 @@ loop-holds c =
     let back = toZ-ofZ (within-fits tt first) in (
       search needs,
       rw back first,
-      record { size = start .pre .1; parts = rw (back, c .before .read .ensures .0, first-left ts 0 (pos 0) (omega arith), first-left (start .args .values .now) 0 0 (omega arith)) },
+      record { size = start .pre .1; parts = rw (back, c .before .read .ensures .0, left-at ts 0 (pos 0) (omega arith), left-at (start .args .values .now) 0 0 (omega arith)) },
     )
 
 next-requires : tie.Need-next-requires Inv-loop μ-loop
@@ -67,7 +67,7 @@ loop-again c =
     let taken = rw (toZ-ofZ (within-fits tt u), c .before .before .before .read2 .ensures .0) at (c .before .next .ensures) in (
       search needs,
       rw taken (sloped-within _ _ _ (at-loop .loop .inv .1) u),
-      turn (omega arith) (rw (first-left ts (j + 1) (pos 0) (omega arith), first-left (start .args .values .now) (j + 1) 0 (omega arith), ← taken) at (at-loop .loop .inv .2)) (c .bits-of .ensures),
+      turn (omega arith) (rw (left-at ts (j + 1) (pos 0) (omega arith), left-at (start .args .values .now) (j + 1) 0 (omega arith), ← taken) at (at-loop .loop .inv .2)) (c .bits-of .ensures),
     )
 
 returns-2 : tie.Need-returns-2 Inv-loop μ-loop

@@ -8,7 +8,7 @@ use lib.ListN.{length, drop, drop-of-length-le}
 use lib.Ieee.{div, neg, ofBits}
 use Rattle.ieee.specs.Patterns.{floats, patterns}
 use Rattle.series.specs.Steps.{resets, resetsFrom}
-use Rattle.series.proofs.Written.{Written, turn, done, first-left}
+use Rattle.series.proofs.Written.{Written, turn, done, left-at}
 use Rattle.series.proofs.steps.remove_counter_resets.Statement.{statement}
 use Rattle.series.proofs.steps.remove_counter_resets.Tie as tie
 
@@ -27,7 +27,7 @@ loop-again : tie.Need-loop-again Inv-loop μ-loop
 unfolding floats resetsFrom
 loop-again c =
     let at-loop = c .before .before .before .before in
-    let left = first-left (at-loop .before .before .before .args .values .now) (at-loop .loop .i) 0 (omega arith) in
+    let left = left-at (at-loop .before .before .before .args .values .now) (at-loop .loop .i) 0 (omega arith) in
     turn (omega arith) (rw (left, ← c .before .before .read .ensures .0, ← c .before .next .ensures) at (at-loop .loop .inv)) (c .bits-of .ensures)
 
 returns : tie.Need-returns Inv-loop μ-loop

@@ -23,11 +23,8 @@ quotient {t = negsuc n} f = record { sfits = omega (arith, mag-neg (suc n / 1000
 div-of-difference : tie.Need-div-of-difference
 div-of-difference c = (lit< tt, rw (toZ-ofZ (c .fits .t)) (quotient (c .fits .t)))
 
-of-difference-requires : tie.Need-of-difference-requires
-of-difference-requires c κs = search needs
-
 returns : tie.Need-returns
 returns c = rw (toZ-ofZ (c .before .fits .t), toZ-ofZ (quotient (c .before .fits .t))) at (c .of-difference .ensures)
 
 pub whole-seconds-spec : {M : Type 1} → statement M
-whole-seconds-spec = tie.close (tie.spec div-of-difference of-difference-requires returns)
+whole-seconds-spec = tie.close (tie.spec div-of-difference (λ c κs. search needs) returns)

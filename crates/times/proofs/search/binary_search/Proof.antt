@@ -21,26 +21,8 @@ abbrev μ-loop : tie.MeasureT-loop
 loop-holds : tie.Need-loop-holds Inv-loop μ-loop
 loop-holds c = omega (arith, same (c .args .timestamps .now) (c .fits .t))
 
-sub-mid : tie.Need-sub-mid Inv-loop μ-loop
-sub-mid c = search needs
-
-add-mid : tie.Need-add-mid Inv-loop μ-loop
-add-mid c = search needs
-
-is-after-requires : tie.Need-is-after-requires Inv-loop μ-loop
-is-after-requires c κs = search needs
-
-loop-less : tie.Need-loop-less Inv-loop μ-loop
-loop-less c = search needs
-
 loop-again : tie.Need-loop-again Inv-loop μ-loop
 loop-again c = omega (arith, c .before .is-after .ensures .yes (c .if1 .taken))
-
-add-low : tie.Need-add-low Inv-loop μ-loop
-add-low c = search needs
-
-loop-less-2 : tie.Need-loop-less-2 Inv-loop μ-loop
-loop-less-2 c = search needs
 
 loop-again-2 : tie.Need-loop-again-2 Inv-loop μ-loop
 loop-again-2 c = omega (arith, c .before .is-after .ensures .no (c .if1 .left))
@@ -53,4 +35,4 @@ returns c =
 pub binary-search-spec : {M : Type 1} → statement M
 binary-search-spec =
     tie.close
-    (tie.spec Inv-loop μ-loop loop-holds sub-mid add-mid is-after-requires loop-less loop-again add-low loop-less-2 loop-again-2 returns)
+    (tie.spec Inv-loop μ-loop loop-holds (λ c. search needs) (λ c. search needs) (λ c κs. search needs) (λ c. search needs) loop-again (λ c. search needs) (λ c. search needs) loop-again-2 returns)

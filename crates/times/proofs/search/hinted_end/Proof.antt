@@ -10,17 +10,8 @@ use Rattle.times.proofs.search.hinted_end.Tie as tie
 returns : tie.Need-returns
 returns c = omega (arith, first-le (c .before .args .timestamps .now) (c .before .args .t))
 
-sub-if2 : tie.Need-sub-if2
-sub-if2 c = search needs
-
 returns-2 : tie.Need-returns-2
 returns-2 c = omega (arith, first-le (c .before .before .args .timestamps .now) (c .before .before .args .t))
-
-add-i : tie.Need-add-i
-add-i c = search needs
-
-is-after-requires : tie.Need-is-after-requires
-is-after-requires c κs = search needs
 
 returns-3 : tie.Need-returns-3
 returns-3 c =
@@ -33,4 +24,4 @@ returns-4 c =
     omega (arith, first-le (s .args .timestamps .now) (s .args .t))
 
 pub hinted-end-spec : {M : Type 1} → statement M
-hinted-end-spec = tie.close (tie.spec returns sub-if2 returns-2 add-i is-after-requires returns-3 returns-4)
+hinted-end-spec = tie.close (tie.spec returns (λ c. search needs) returns-2 (λ c. search needs) (λ c κs. search needs) returns-3 returns-4)

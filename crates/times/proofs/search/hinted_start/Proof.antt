@@ -7,17 +7,8 @@ use Rattle.times.proofs.After.{same}
 use Rattle.times.proofs.search.hinted_start.Statement.{statement}
 use Rattle.times.proofs.search.hinted_start.Tie as tie
 
-returns : tie.Need-returns
-returns c = search needs
-
-sub-i : tie.Need-sub-i
-sub-i c = search needs
-
 is-after-requires : tie.Need-is-after-requires
 is-after-requires c κs = ⊎-elim (λ w. search needs) (λ w. search needs) (c .if2 .came)
-
-returns-2 : tie.Need-returns-2
-returns-2 c = search needs
 
 returns-3 : tie.Need-returns-3
 returns-3 c =
@@ -25,4 +16,4 @@ returns-3 c =
     omega (arith, same (s .args .timestamps .now) (s .fits .t), c .before .is-after .ensures .no (c .if3 .left))
 
 pub hinted-start-spec : {M : Type 1} → statement M
-hinted-start-spec = tie.close (tie.spec returns sub-i is-after-requires returns-2 returns-3)
+hinted-start-spec = tie.close (tie.spec (λ c. search needs) (λ c. search needs) is-after-requires (λ c. search needs) returns-3)

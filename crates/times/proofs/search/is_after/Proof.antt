@@ -9,14 +9,6 @@ use mir.Facts.{toZ-ofZ}
 use Rattle.times.proofs.After.{tells}
 use Rattle.times.proofs.search.is_after.Statement.{statement}
 use Rattle.times.proofs.search.is_after.Tie as tie
-use Rattle.times.proofs.search.is_after.Reads as reads
-use Rattle.times.proofs.search.is_after.Lts as lts
-
-mul-result : tie.Need-mul-result
-mul-result c = search needs
-
-shared-slice-copy-out-result : tie.Need-shared-slice-copy-out-result
-shared-slice-copy-out-result c = search needs
 
 returns : tie.Need-returns
 returns c =
@@ -25,4 +17,4 @@ returns c =
     rw (toZ-ofZ (s .fits .t), toZ-ofZ known) (tells (s .pre .0) (s .args .t) (s .args .i) (s .pre .1))
 
 pub is-after-spec : {M : Type 1} → statement M
-is-after-spec = tie.close (tie.spec mul-result shared-slice-copy-out-result returns)
+is-after-spec = tie.close (tie.spec (λ c. search needs) (λ c. search needs) returns)

@@ -19,19 +19,10 @@ abbrev μ-loop : tie.MeasureT-loop
 loop-holds : tie.Need-loop-holds Inv-loop μ-loop
 loop-holds c = omega (arith, same (c .args .timestamps .now) (c .fits .t))
 
-is-after-requires : tie.Need-is-after-requires Inv-loop μ-loop
-is-after-requires c κs = search needs
-
 returns : tie.Need-returns Inv-loop μ-loop
 returns c =
     let s = c .before .before .before .before in
     omega (arith, same (s .args .timestamps .now) (s .fits .t), c .before .is-after .ensures .yes (c .if1 .taken))
-
-add-i : tie.Need-add-i Inv-loop μ-loop
-add-i c = search needs
-
-loop-less : tie.Need-loop-less Inv-loop μ-loop
-loop-less c = search needs
 
 loop-again : tie.Need-loop-again Inv-loop μ-loop
 loop-again c =
@@ -44,4 +35,4 @@ returns-2 c =
 
 pub scan-spec : {M : Type 1} → statement M
 scan-spec =
-    tie.close (tie.spec Inv-loop μ-loop loop-holds is-after-requires returns add-i loop-less loop-again returns-2)
+    tie.close (tie.spec Inv-loop μ-loop loop-holds (λ c κs. search needs) returns (λ c. search needs) (λ c. search needs) loop-again returns-2)

@@ -13,28 +13,10 @@ returns c =
     let s = c .before in
     omega (arith, first-le (s .args .timestamps .now) (s .args .seek-timestamp))
 
-is-after-requires : tie.Need-is-after-requires
-is-after-requires c κs = search needs
-
 returns-2 : tie.Need-returns-2
 returns-2 c =
     let s = c .before .before .before in
     omega (arith, same (s .args .timestamps .now) (s .fits .seek-timestamp), c .before .is-after .ensures .yes (c .if2 .taken))
-
-hinted-start-requires : tie.Need-hinted-start-requires
-hinted-start-requires c κs = search needs
-
-hinted-end-requires : tie.Need-hinted-end-requires
-hinted-end-requires c κs = search needs
-
-sub-if3 : tie.Need-sub-if3
-sub-if3 c = search needs
-
-scan-requires : tie.Need-scan-requires
-scan-requires c κs = search needs
-
-binary-search-requires : tie.Need-binary-search-requires
-binary-search-requires c κs = search needs
 
 returns-3 : tie.Need-returns-3
 returns-3 c =
@@ -49,4 +31,4 @@ returns-4 c =
 pub seek-first-timestamp-idx-after-spec : {M : Type 1} → statement M
 seek-first-timestamp-idx-after-spec =
     tie.close
-    (tie.spec returns is-after-requires returns-2 hinted-start-requires hinted-end-requires sub-if3 scan-requires binary-search-requires returns-3 returns-4)
+    (tie.spec returns (λ c κs. search needs) returns-2 (λ c κs. search needs) (λ c κs. search needs) (λ c. search needs) (λ c κs. search needs) (λ c κs. search needs) returns-3 returns-4)

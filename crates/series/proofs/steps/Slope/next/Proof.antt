@@ -25,9 +25,6 @@ module _ {t u : ℤ} (w : Within timeLimit t × Within timeLimit u) where
 sub-seconds : tie.Need-sub-seconds
 sub-seconds c = let w = c .before .before .before .before .before .before .pre in rw (back-t w, back-u w) (difference w)
 
-seconds-requires : tie.Need-seconds-requires
-seconds-requires c κs = search needs
-
 returns : tie.Need-returns
 unfolding sloped
 returns c =
@@ -43,4 +40,4 @@ returns-2 c =
     rw (rw (back-t w, back-u w) at (c .if1 .left))
 
 pub next-spec : {M : Type 1} → statement M
-next-spec = tie.close (tie.spec sub-seconds seconds-requires returns returns-2)
+next-spec = tie.close (tie.spec sub-seconds (λ c κs. search needs) returns returns-2)
