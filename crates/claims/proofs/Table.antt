@@ -3,7 +3,7 @@
 use mathlib.Core.Path.{_≡_, refl}
 use mathlib.Core.List.{map, zipWith}
 use lib.Ieee.{add, div, eq, isNan, le, lt, mul, ne, neg, ofBits, ofInt, sub, toBits, toSigned, toUnsigned}
-use Rattle.ieee.specs.Root.{sqrtOf}
+use Rattle.root.specs.Root.{sqrtOf}
 use Rattle.ieee.specs.Value.{absOf, floorOf}
 use Rattle.math.specs.Deviation.{stdvarOf}
 use Rattle.math.specs.Mode.{modeOf}

@@ -1,4 +1,3 @@
 -- The definitions that the contracts of `ieee`, and of the crates above, cite: a file for each subject.
 pub mod Value
 pub mod Patterns
-pub mod Root

@@ -5,7 +5,7 @@ use Prim.Native.Nat.{ℕ, _+_}
 use lib.Dec.{eqb}
 use lib.IntN.{pos}
 use lib.Ieee.{Float, nan, binary64, add, sub, mul, div, isNan, ofBits, ofInt}
-use Rattle.ieee.specs.Root.{sqrtOf}
+use Rattle.root.specs.Root.{sqrtOf}
 
 -- how many values, their mean, and the sum q of products of distances from the mean before and after each
 pub record Spread : Type 0 where

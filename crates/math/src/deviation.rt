@@ -38,5 +38,5 @@ pub fn stdvar(values: &[u64]) -> f64
 pub fn stddev(values: &[u64]) -> f64
     ensures { λ r. ⌜ r ≡ stddevOf (floats (now (values .entry))) ⌝ }
 {
-    ieee::root::sqrt(stdvar(values))
+    root::sqrt(stdvar(values))
 }

@@ -9,7 +9,7 @@ use vectors::STEP;
 fn same(op: u64, a: u64, b: u64, stored: u64) -> bool {
     let x = ieee::value_of(a);
     match op {
-        0 => ieee::bits_of(ieee::root::sqrt(x)) == stored,
+        0 => ieee::bits_of(root::sqrt(x)) == stored,
         1 => ieee::bits_of(ieee::floor(x)) == stored,
         2 => ieee::bits_of(ieee::abs(x)) == stored,
         3 => replay::flag(ieee::total_lt(x, ieee::value_of(b))) == stored,

@@ -1,6 +1,6 @@
 use mathlib.Core.Path.{ap, _∙_}
 use borrow.Author.Needs.{needs}
-use Rattle.ieee.specs.Root.{sqrtOf}
+use Rattle.root.specs.Root.{sqrtOf}
 use Rattle.math.proofs.deviation.stddev.Statement.{statement}
 use Rattle.math.proofs.deviation.stddev.Tie as tie
 

@@ -10,9 +10,9 @@ use lib.Pow.{pow-pos, pow-mono, pow-add}
 use lib.Ieee.{size}
 use lib.Ieee.Digits.{size-lt, size-le}
 use lib.Ieee.Nearest.{closest}
-use Rattle.ieee.specs.Root.{Digits, isqrt, halves}
-use Rattle.ieee.proofs.root.Whole.{isqrt-is, twice-squared}
-use Rattle.ieee.proofs.root.Closest.{closest-is}
+use Rattle.root.specs.Root.{Digits, isqrt, halves}
+use Rattle.root.proofs.Whole.{isqrt-is, twice-squared}
+use Rattle.root.proofs.Closest.{closest-is}
 
 -- squares are in the order of their roots
 pub root-lt : (x y : ℕ) → x * x < y * y → x < y

@@ -2,7 +2,7 @@
 use mathlib.Core.Path.{_≡_, refl}
 use Prim.Native.Nat.{ℕ}
 use lib.Ieee.{binary64, ofBits, toBits}
-use Rattle.ieee.specs.Root.{sqrtOf}
+use Rattle.root.specs.Root.{sqrtOf}
 
 abbrev root : ℕ → ℕ
 root b = toBits binary64 (sqrtOf (ofBits binary64 b))

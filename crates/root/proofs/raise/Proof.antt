@@ -1,11 +1,11 @@
--- `ieee::root::raise` meets its contract. The loop's invariant: the root is above q - 1/2. A turn is taken only where it is above q + 1/2,
+-- `root::raise` meets its contract. The loop's invariant: the root is above q - 1/2. A turn is taken only where it is above q + 1/2,
 -- and not at the last q of 53 digits, where q * (q + 1) is m * 2 ^ 52 at least. The measure is what is left to 2 ^ 53. Assumes nothing.
 use Prim.Native.Nat.{ℕ, _+_, _-_, _*_, _/_, _^_, _≤_, _<_}
 use native.Mathlib.Nat.{add-mul, mul-add, mul-le-mul-right, lt-of-not-le}
 use native.Mathlib.Omega.{arith}
-use Rattle.ieee.specs.Root.{Above}
-use Rattle.ieee.proofs.root.raise.Statement.{statement}
-use Rattle.ieee.proofs.root.raise.Tie as tie
+use Rattle.root.specs.Root.{Above}
+use Rattle.root.proofs.raise.Statement.{statement}
+use Rattle.root.proofs.raise.Tie as tie
 
 abbrev Inv-loop : tie.InvT-loop
 Inv-loop m r q₀ q = Above m q

@@ -1,4 +1,4 @@
--- `ieee::root::root` meets its contract. g * 2 ^ (p + 52) is m * 2 ^ 52 times the square of 2 ^ (p / 2), so its root is that of m * 2 ^ 52 with p / 2 added to the exponent.
+-- `root::root` meets its contract. g * 2 ^ (p + 52) is m * 2 ^ 52 times the square of 2 ^ (p / 2), so its root is that of m * 2 ^ 52 with p / 2 added to the exponent.
 -- Assumes nothing.
 use borrow.Author.Needs.{needs}
 use mathlib.Core.Path.{_≡_, refl, sym, ap, _∙_}
@@ -6,10 +6,10 @@ use Prim.Native.Nat.{ℕ, zero, suc, _+_, _*_, _/_, _%_, _^_, _≤_, _<_}
 use native.Mathlib.Nat.{mul-le-mul-left, mul-assoc}
 use native.Mathlib.Omega.{arith}
 use lib.Pow.{pow-add}
-use Rattle.ieee.specs.Root.{rootOf}
-use Rattle.ieee.proofs.root.Value.{root-pattern}
-use Rattle.ieee.proofs.root.root.Statement.{statement}
-use Rattle.ieee.proofs.root.root.Tie as tie
+use Rattle.root.specs.Root.{rootOf}
+use Rattle.root.proofs.Value.{root-pattern}
+use Rattle.root.proofs.root.Statement.{statement}
+use Rattle.root.proofs.root.Tie as tie
 
 -- g, doubled where p is odd
 abbrev m : ℕ → ℕ → ℕ

@@ -14,8 +14,8 @@ use lib.Ieee.Fits.{and-l, and-r, down-pos, round-is, round-fits}
 use lib.Ieee.Exact.{HasValue, odd-sign, units-val}
 use lib.Ieee.Nearest.{closest, closest-same, div-same}
 use lib.Ieee.Bits.{ofBits-toBits}
-use Rattle.ieee.specs.Root.{Digits, halves, rootOf, sqrtOf}
-use Rattle.ieee.proofs.root.Halves.{closest-half, size-is, size-half}
+use Rattle.root.specs.Root.{Digits, halves, rootOf, sqrtOf}
+use Rattle.root.proofs.Halves.{closest-half, size-is, size-half}
 
 -- k digits of the whole part are dropped, and what is kept is the nearest multiple of 2 ^ k
 pub root-is : (n k : ℕ) → size (halves n / 2) - 53 ≡ k → rootOf n ≡ units binary64 false (closest (halves n) (2 * 2 ^ k)) k

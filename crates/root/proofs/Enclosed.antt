@@ -16,11 +16,11 @@ use lib.Ieee.Exact.{HasValue, units-val}
 use lib.Ieee.Fits.{down-pos}
 use lib.Ieee.Nearest.{closest}
 use lib.Ieee.Positive.{positive}
-use Rattle.ieee.specs.Root.{halves, sqrtOf}
-use Rattle.ieee.proofs.root.Whole.{twice-squared}
-use Rattle.ieee.proofs.root.Closest.{Near, closest-near}
-use Rattle.ieee.proofs.root.Halves.{above, from, below, root-lt, square-product}
-use Rattle.ieee.proofs.root.Value.{root-is, units-of, sqrt-of-units}
+use Rattle.root.specs.Root.{halves, sqrtOf}
+use Rattle.root.proofs.Whole.{twice-squared}
+use Rattle.root.proofs.Closest.{Near, closest-near}
+use Rattle.root.proofs.Halves.{above, from, below, root-lt, square-product}
+use Rattle.root.proofs.Value.{root-is, units-of, sqrt-of-units}
 
 -- of the multiples of 2 ^ k, where the root of n has 53 digits above 2 ^ k, r * 2 ^ k is the nearest to it
 pub record Enclosed (n r k : ℕ) : Type 0 where

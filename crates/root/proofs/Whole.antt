@@ -7,7 +7,7 @@ use native.Mathlib.Omega.{arith}
 use lib.Dec.{T, leb, leb→le, nleb→lt}
 use lib.Ieee.{size}
 use lib.Ieee.Digits.{size-lt}
-use Rattle.ieee.specs.Root.{lastDigit, rootBy, isqrt}
+use Rattle.root.specs.Root.{lastDigit, rootBy, isqrt}
 
 -- r is the whole part of the root of n
 abbrev pub IsRoot : ℕ → ℕ → Type 0

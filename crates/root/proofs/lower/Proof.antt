@@ -1,12 +1,12 @@
--- `ieee::root::lower` meets its contract. The loop's invariant: q has 53 digits. A turn is taken only above 2 ^ 52, since 2 ^ 52 * (2 ^ 52 - 1) is below m * 2 ^ 52.
+-- `root::lower` meets its contract. The loop's invariant: q has 53 digits. A turn is taken only above 2 ^ 52, since 2 ^ 52 * (2 ^ 52 - 1) is below m * 2 ^ 52.
 -- The measure is q. Assumes nothing.
 use Prim.Native.Nat.{ℕ, _-_, _*_, _/_, _^_, _≤_, _<_}
 use native.Mathlib.Nat.{mul-le-mul-right, lt-of-not-le}
 use native.Mathlib.Omega.{arith}
-use Rattle.ieee.specs.Root.{Digits}
-use Rattle.ieee.proofs.root.Whole.{pred-square}
-use Rattle.ieee.proofs.root.lower.Statement.{statement}
-use Rattle.ieee.proofs.root.lower.Tie as tie
+use Rattle.root.specs.Root.{Digits}
+use Rattle.root.proofs.Whole.{pred-square}
+use Rattle.root.proofs.lower.Statement.{statement}
+use Rattle.root.proofs.lower.Tie as tie
 
 abbrev Inv-loop : tie.InvT-loop
 Inv-loop m r q₀ q = Digits q

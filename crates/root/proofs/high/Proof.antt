@@ -1,11 +1,11 @@
--- `ieee::root::high` meets its contract. The product of two numbers with halves of 26 bits is the sum of the products of the halves,
+-- `root::high` meets its contract. The product of two numbers with halves of 26 bits is the sum of the products of the halves,
 -- and what a column drops is less than one of the next. Assumes nothing.
 use mathlib.Core.Path.{_≡_}
 use Prim.Native.Nat.{ℕ, _+_, _*_, _/_, _%_, _^_, _<_}
 use native.Mathlib.Nat.{mul-assoc, mul-right-comm, add-mul, mul-add, mul-le-mul, le-of-lt}
 use native.Mathlib.Omega.{arith}
-use Rattle.ieee.proofs.root.high.Statement.{statement}
-use Rattle.ieee.proofs.root.high.Tie as tie
+use Rattle.root.proofs.high.Statement.{statement}
+use Rattle.root.proofs.high.Tie as tie
 
 abbrev B : ℕ
 B = 2 ^ 26

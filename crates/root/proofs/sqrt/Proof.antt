@@ -1,4 +1,4 @@
--- `ieee::root::sqrt` meets its contract. The tests tell the definition's cases apart, and a positive finite value is what its pattern stands for. Assumes nothing.
+-- `root::sqrt` meets its contract. The tests tell the definition's cases apart, and a positive finite value is what its pattern stands for. Assumes nothing.
 use borrow.Author.Needs.{needs}
 use borrow.Author.Tests.{ltb-true, ltb-false}
 use mathlib.Core.Path.{_≡_, refl, sym, ap, _∙_, subst}
@@ -13,10 +13,10 @@ use lib.Ieee.{Float, nan, inf, fin, binary64, up, down, lt, div, fits, ofBits, t
 use lib.Ieee.Digits.{size-le}
 use lib.Ieee.Fits.{up-pos, kept-lt}
 use lib.Ieee.Bits.{ofBits-toBits}
-use Rattle.ieee.specs.Root.{sqrtOf}
-use Rattle.ieee.proofs.root.Value.{units-of}
-use Rattle.ieee.proofs.root.sqrt.Statement.{statement}
-use Rattle.ieee.proofs.root.sqrt.Tie as tie
+use Rattle.root.specs.Root.{sqrtOf}
+use Rattle.root.proofs.Value.{units-of}
+use Rattle.root.proofs.sqrt.Statement.{statement}
+use Rattle.root.proofs.sqrt.Tie as tie
 
 -- a positive value's pattern is not 0
 not-zero : lt (ofBits binary64 0) (ofBits binary64 0) ≡ false

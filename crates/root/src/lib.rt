@@ -5,7 +5,7 @@
 ghost use mathlib.Core.Path.{_≡_};
 ghost use Prim.Native.Nat.{_+_, _*_, _/_, _^_, _≤_, _<_};
 ghost use lib.Ieee.{binary64, ofBits};
-ghost use Rattle.ieee.specs.Root.{Digits, Above, Nearest, rootOf, sqrtOf};
+ghost use Rattle.root.specs.Root.{Digits, Above, Nearest, rootOf, sqrtOf};
 
 // The weight of the first of 53 binary digits.
 const LEAD: u64 = 0x10_0000_0000_0000;
@@ -28,14 +28,14 @@ fn guess(b: u64) -> u64
     requires { ⌜ b < 2 ^ 63 ⌝ }
     ensures { λ r. ⌜ Digits r ⌝ }
 {
-    let f = super::value_of(b);
+    let f = ieee::value_of(b);
     let half = 0.5 * f;
-    let y0 = super::value_of(0x5FE6_EB50_C7B5_37A9 - b / 2);
+    let y0 = ieee::value_of(0x5FE6_EB50_C7B5_37A9 - b / 2);
     let y1 = 1.5 * y0 - half * y0 * (y0 * y0);
     let y2 = 1.5 * y1 - half * y1 * (y1 * y1);
     let y3 = 1.5 * y2 - half * y2 * (y2 * y2);
     let s = f * y3;
-    let digits = super::bits_of(s + 0.5 * y3 * (f - s * s));
+    let digits = ieee::bits_of(s + 0.5 * y3 * (f - s * s));
     LEAD + digits % LEAD
 }
 
@@ -71,7 +71,7 @@ fn root(g: u64, p: u64) -> f64
     let odd = p % 2;
     let m = g * (1 + odd);
     let r = raise(m, lower(m, guess((1022 + odd) * LEAD + g)));
-    super::value_of(p / 2 * LEAD + r)
+    ieee::value_of(p / 2 * LEAD + r)
 }
 
 // The root of the positive finite value with the pattern b. Below LEAD b is the number of units.
@@ -92,7 +92,7 @@ pub fn sqrt(x: f64) -> f64
     ensures { λ r. ⌜ r ≡ sqrtOf x ⌝ }
 {
     if 0.0 < x {
-        let b = super::bits_of(x);
+        let b = ieee::bits_of(x);
         if b < 0x7FF0_0000_0000_0000 {
             positive(b)
         } else {

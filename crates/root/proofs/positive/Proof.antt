@@ -1,4 +1,4 @@
--- `ieee::root::positive` meets its contract. A pattern stands for a whole number of units: itself below 2 ^ 52, which is shifted until it has 53 digits,
+-- `root::positive` meets its contract. A pattern stands for a whole number of units: itself below 2 ^ 52, which is shifted until it has 53 digits,
 -- and above that its digits with the leading one, times a power of two. Assumes nothing.
 use borrow.Author.Needs.{needs}
 use mathlib.Core.Path.{_≡_, sym, ap, _∙_}
@@ -7,10 +7,10 @@ use native.Mathlib.Nat.{mul-le-mul-right, mul-lt-mul-of-pos-right, mul-assoc, lt
 use native.Mathlib.Omega.{arith}
 use lib.Pow.{pow-add, pow-mono, pow-pos}
 use lib.Count.{leadingZeros, leading-top}
-use Rattle.ieee.specs.Root.{Digits, rootOf}
-use Rattle.ieee.proofs.root.Value.{sqrt-subnormal, sqrt-normal}
-use Rattle.ieee.proofs.root.positive.Statement.{statement}
-use Rattle.ieee.proofs.root.positive.Tie as tie
+use Rattle.root.specs.Root.{Digits, rootOf}
+use Rattle.root.proofs.Value.{sqrt-subnormal, sqrt-normal}
+use Rattle.root.proofs.positive.Statement.{statement}
+use Rattle.root.proofs.positive.Tie as tie
 
 -- the leading zeros, and the number with all of them but 11 shifted out
 module _ (b : ℕ) (p : 0 < b) (h : b < 2 ^ 52) where

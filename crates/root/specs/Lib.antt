@@ -1,0 +1,2 @@
+-- The definition that the contracts of `root`, and of the crates above, cite.
+pub mod Root
