@@ -1,11 +1,11 @@
 // Replays the list `prepare`. A case's words are the preparing step, the number of readings, their times,
 // their values, and the values as the Rust prepared them.
 use libc::STDIN_FILENO;
+use prepare::PreFunction;
+use prepare::Step;
 use replay::Case;
 use replay::Tally;
 use series::Checked;
-use series::PreFunction;
-use series::Step;
 use vectors::STEP;
 ghost use Prim.Native.Nat.{_≤_};
 ghost use lib.ListN.{length};
@@ -21,7 +21,7 @@ fn same(
 ) -> bool
     requires { ⌜ (at ≤ 4096) × (length (now prepared) ≤ 64) ⌝ }
 {
-    let answer = series::prepare(timestamps, values, pre, prepared);
+    let answer = prepare::prepare(timestamps, values, pre, prepared);
     match answer {
         Checked::Accepted => vectors::agree(text, at, prepared),
         Checked::Refused(_) => false,
@@ -34,7 +34,7 @@ fn case(text: &[u8]) -> Case {
     if number > 4 {
         return replay::unread();
     }
-    let step = series::step_of(number as u32);
+    let step = prepare::step_of(number as u32);
     let Step::Known(pre) = step else {
         return replay::unread();
     };

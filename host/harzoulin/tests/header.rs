@@ -10,7 +10,7 @@ const EXPORTED: &str = include_str!("../src/exported.rs");
 const PROVED: &str = concat!(
     include_str!("../../../crates/harzoulin/src/lib.rt"),
     include_str!("../../../crates/harzoulin/src/settle.rt"),
-    include_str!("../../../crates/harzoulin/src/prepare.rt"),
+    include_str!("../../../crates/harzoulin/src/prepared.rt"),
     include_str!("../../../crates/harzoulin/src/runs.rt"),
 );
 const PAPER: &str = include_str!("../../../docs/ROLLUPS.md");

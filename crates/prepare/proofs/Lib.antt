@@ -1,0 +1,5 @@
+pub mod Written
+pub mod Patterns
+pub mod Numbers
+pub mod Resets
+pub mod Prepared
