@@ -51,7 +51,7 @@ opened b = refl
 
 -- ---- finite: the exponent's field is not all ones
 
-odd-finite : (d : ℕ) (s : Bool) (q k l : ℕ) → finite (odd d s q k l) ≡ true
+pub odd-finite : (d : ℕ) (s : Bool) (q k l : ℕ) → finite (odd d s q k l) ≡ true
 unfolding odd
 odd-finite d s zero k l = refl
 odd-finite d s (suc q) k l = refl

@@ -15,15 +15,11 @@ use lib.Ieee.Positive.{positive, between}
 use lib.Ieee.Order.{round-mono}
 use lib.Ieee.Exact.{HasValue}
 use Rattle.ieee.proofs.Exact.{count-exact}
+use Rattle.ieee.proofs.Patterns.{odd-finite}
 use Rattle.times.proofs.Order.{by-test}
 use Rattle.ieee.specs.Value.{secondsOf}
 
 -- ---- what `round` gives is a number, and whether it is finite does not turn on the sign
-
-odd-finite : (d : ℕ) (s : Bool) (q k l : ℕ) → finite (odd d s q k l) ≡ true
-unfolding odd
-odd-finite d s zero k l = refl
-odd-finite d s (suc q) k l = refl
 
 units-finite : (f : Format) (s : Bool) (q k : ℕ) → finite (units f s q k) ≡ ltb (q * 2 ^ k) (2 ^ (low f + suc (emax f)))
 unfolding units
