@@ -9,11 +9,11 @@ use lib.Dec.{T}
 use lib.Ieee.{Float, nan, fin, binary64, eq, isNan, lt, ofBits, ofInt}
 use lib.Ieee.Scale.{finite}
 use Rattle.ieee.specs.Value.{negative}
-use Rattle.sort.specs.Order.{sorted}
+use Rattle.merge_sort.specs.Order.{sorted}
 use Rattle.math.specs.Quantile.{rankOf}
-use Rattle.sort.specs.Sort.{All}
+use Rattle.merge_sort.specs.Sort.{All}
 use Rattle.sort.specs.Values.{kept}
-use Rattle.sort.specs.declared.Order.the-variants.{Partial}
+use Rattle.merge_sort.specs.declared.Order.the-variants.{Partial}
 
 -- 0.0 and −0.0
 abbrev pub zeroOf : Bool → Float

@@ -19,7 +19,7 @@ use lib.Ieee.Back.{unsigned-back}
 use Rattle.ieee.specs.Value.{floorOf, wholeBelow}
 use Rattle.ieee.proofs.Exact.{count-exact}
 use Rattle.math.specs.Quantile.{rankOf}
-use Rattle.sort.proofs.Sorting.{cases}
+use Rattle.merge_sort.proofs.Sorting.{cases}
 
 either : (p q : Bool) → T (p || q) → T p ⊎ T q
 either true q t = inl tt

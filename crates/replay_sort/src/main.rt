@@ -1,9 +1,9 @@
 // Replays the list `sort`. A case's words are an order's number, the number of values, the values, and the
 // values as the Rust sorts them.
 use libc::STDIN_FILENO;
+use merge_sort::Order;
 use replay::Case;
 use replay::Tally;
-use sort::Order;
 use vectors::STEP;
 ghost use Prim.Native.Nat.{_*_, _≤_};
 ghost use lib.ListN.{length};

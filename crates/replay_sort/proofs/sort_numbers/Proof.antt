@@ -7,10 +7,10 @@ use native.Mathlib.Omega.{arith}
 use borrow.Author.Needs.{needs}
 use lib.Ieee.{Float, binary64, ofBits}
 use lib.ListN.{length, take, drop, length-take, length-map}
-use Rattle.sort.specs.Order.{Sortable}
+use Rattle.merge_sort.specs.Order.{Sortable}
 use Rattle.ieee.specs.Patterns.{floats}
 use Rattle.sort.specs.Values.{kept}
-use Rattle.sort.specs.declared.Order.the-variants.{Partial}
+use Rattle.merge_sort.specs.declared.Order.the-variants.{Partial}
 use Rattle.math.proofs.Kept.{kept-fits, kept-sortable}
 use Rattle.sort.proofs.Halves.{first-half}
 use Rattle.replay_sort.proofs.sort_numbers.Statement.{statement}

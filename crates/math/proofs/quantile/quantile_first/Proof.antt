@@ -6,9 +6,9 @@ use native.Mathlib.Omega.{arith}
 use borrow.Author.Needs.{needs}
 use lib.ListN.{length-take, length-append}
 use lib.Ieee.{Float}
-use Rattle.sort.specs.Order.{sorted}
+use Rattle.merge_sort.specs.Order.{sorted}
 use Rattle.math.specs.Quantile.{quantileSorted}
-use Rattle.sort.specs.declared.Order.the-variants.{Partial}
+use Rattle.merge_sort.specs.declared.Order.the-variants.{Partial}
 use Rattle.sort.proofs.Halves.{first-half, part-long, part-first, part-behind}
 use Rattle.math.proofs.quantile.quantile_first.Statement.{statement}
 use Rattle.math.proofs.quantile.quantile_first.Tie as tie
