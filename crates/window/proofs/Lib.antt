@@ -3,3 +3,4 @@ pub mod Folds
 pub mod Window
 pub mod Searches
 pub mod Times
+pub mod Finite
