@@ -3,16 +3,21 @@
 use value_rollups::rollup_fns::is_beyond;
 use window::types::RollupFuncArg;
 use window::types::after_seed;
+use window::types::are_finite;
+use window::types::finite_at;
 use window::types::first;
 use window::types::last;
 use window::types::nan;
 use window::types::rest;
 use window::types::seed;
 use window::types::value_at;
+ghost use mathlib.Core.Bool.{_&&_, not, true};
 ghost use mathlib.Core.Path.{_≡_};
 ghost use Prim.Native.Nat.{_≤_};
 ghost use lib.ListN.{length};
+ghost use lib.Ieee.Scale.{finite};
 ghost use Rattle.ieee.specs.Patterns.{floats};
+ghost use Rattle.window.specs.Types.{AllFinite};
 ghost use Rattle.change_rollups.specs.RollupFns.{ascentOverTimeOf, belowTolerance, changesFrom, changesOf, changesPrometheusOf, descentOverTimeOf, gap, increasePureOf, increasesOf, isChange, resetsOf, slideFrom, slideOf, stepsFrom, stepsOf};
 
 // The last value less the predecessor, which is 0.0 where there is none.
@@ -41,6 +46,23 @@ fn change_below_tolerance(v: f64, prev_value: f64) -> bool
     }
     let tolerance = 1e-12 * ieee::magnitude(v);
     ieee::magnitude(step) < tolerance
+}
+
+// The same for finite values, whose difference is never NaN.
+fn finite_below_tolerance(v: f64, prev_value: f64) -> bool
+    requires value { ⌜ finite v ≡ true ⌝ }
+    requires before { ⌜ finite «prev_value» ≡ true ⌝ }
+    ensures { λ r. ⌜ r ≡ belowTolerance v «prev_value» ⌝ }
+{
+    let tolerance = 1e-12 * ieee::magnitude(v);
+    ieee::magnitude(v - prev_value) < tolerance
+}
+
+// Whether x is known to be finite.
+fn is_finite(x: f64) -> bool
+    ensures { λ r. ⌜ (r ≡ true → finite x ≡ true) ⌝ }
+{
+    x - x == 0.0
 }
 
 // Whether the step from prev_value to v counts as a change.
@@ -102,8 +124,46 @@ pub fn rollup_changes(rfa: RollupFuncArg, values: &[u64]) -> f64
     ieee::of_count(n)
 }
 
-// How many steps go the given way, those below the tolerance left out.
-fn count_steps(down: bool, prev_value: f64, values: &[u64]) -> f64
+// Whether a step is known not to count before its size is. Steps down are few where they are looked for, in a counter, and a jump
+// on them is foreseen. Steps up are as many as others in most series, and the jump that would spare a look at the size would be
+// guessed wrong every other time.
+fn is_passed_over(down: bool, beyond: bool) -> bool
+    ensures { λ r. ⌜ r ≡ (down && not beyond) ⌝ }
+{
+    if down { !beyond } else { false }
+}
+
+// How many steps between finite values go the given way, those below the tolerance left out.
+fn count_finite_steps(down: bool, prev_value: f64, values: &[u64]) -> f64
+    requires before { ⌜ finite «prev_value» ≡ true ⌝ }
+    requires numbers { ⌜ AllFinite (now values) ⌝ }
+    ensures { λ r. ⌜ r ≡ stepsFrom down «prev_value» (floats (now (values .entry))) ⌝ }
+{
+    let mut compared = prev_value;
+    let mut n = 0;
+    let mut i = 0;
+    while i < values.len() {
+        let v = finite_at(values, i);
+        let beyond = is_beyond(down, compared, v);
+        if is_passed_over(down, beyond) {
+            compared = v;
+        } else if finite_below_tolerance(v, compared) {
+            if !beyond {
+                compared = v;
+            }
+        } else {
+            if beyond {
+                n += 1;
+            }
+            compared = v;
+        }
+        i += 1;
+    }
+    ieee::of_count(n)
+}
+
+// The same between values that may be NaN or infinite.
+fn count_any_steps(down: bool, prev_value: f64, values: &[u64]) -> f64
     ensures { λ r. ⌜ r ≡ stepsFrom down «prev_value» (floats (now (values .entry))) ⌝ }
 {
     let mut compared = prev_value;
@@ -122,6 +182,18 @@ fn count_steps(down: bool, prev_value: f64, values: &[u64]) -> f64
         i += 1;
     }
     ieee::of_count(n)
+}
+
+// How many steps go the given way, those below the tolerance left out.
+fn count_steps(down: bool, prev_value: f64, values: &[u64]) -> f64
+    ensures { λ r. ⌜ r ≡ stepsFrom down «prev_value» (floats (now (values .entry))) ⌝ }
+{
+    if is_finite(prev_value) {
+        if are_finite(values) {
+            return count_finite_steps(down, prev_value, values);
+        }
+    }
+    count_any_steps(down, prev_value, values)
 }
 
 // The steps that go the given way, from the predecessor, or else from the first value, on.

@@ -18,7 +18,7 @@ use Rattle.prepare.specs.declared.steps.PreFunction.the-variants.{None, Resets,
 use Rattle.prepare.specs.declared.steps.Slope.{Slope}
 use Rattle.series.proofs.All.{All}
 use Rattle.prepare.proofs.Resets.{lifted-fits}
-use Rattle.times.proofs.Order.{by-test}
+use Rattle.ieee.proofs.Tests.{by-test}
 use Rattle.run.specs.Record.{Reading, readings}
 use Rattle.claims.specs.Agree.{NoNan, Prepared}
 

@@ -28,7 +28,7 @@ use Rattle.times.specs.Later.{NotFalling}
 use Rattle.times.proofs.Order.{offset-of}
 use Rattle.times.proofs.Later.{not-falling-tail}
 use Rattle.times.proofs.Milli.{within-sub}
-use Rattle.times.proofs.Order.{by-test}
+use Rattle.ieee.proofs.Tests.{by-test}
 use Rattle.config.specs.Estimate.{distancesFrom, distances, firstIntervals, orSilence, estimateOf}
 use Rattle.config.proofs.Bounded.{plain, Below, round-below, mul-below, add-below}
 use Rattle.config.proofs.Passed.{UpTo}

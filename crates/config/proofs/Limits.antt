@@ -10,7 +10,7 @@ use lib.Dec.{leb, ltb}
 use lib.IntN.{ℤ, pos, natAbs}
 use Rattle.times.specs.Milli.{timeLimit}
 use Rattle.times.proofs.GridLaws.{step-some}
-use Rattle.times.proofs.Order.{by-test}
+use Rattle.ieee.proofs.Tests.{by-test}
 use Rattle.series.specs.Answers.{Reply, gives, replyOf}
 use Rattle.series.specs.Refusals.{firstRefusal}
 use Rattle.series.specs.Rows.{timesChecked}

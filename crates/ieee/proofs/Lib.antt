@@ -1,6 +1,8 @@
 -- Laws that several proofs cite, here and in the crates above.
+pub mod Tests
 pub mod Patterns
 pub mod Exact
+pub mod Numbers
 pub mod Rank
 pub mod Units
 pub mod Order

@@ -19,7 +19,7 @@ use lib.Ieee.Back.{unsigned-back}
 use Rattle.ieee.specs.Value.{floorOf, wholeBelow}
 use Rattle.ieee.proofs.Exact.{count-exact}
 use Rattle.math.specs.Quantile.{rankOf}
-use Rattle.merge_sort.proofs.Sorting.{cases}
+use Rattle.ieee.proofs.Tests.{by-test}
 
 either : (p q : Bool) → T (p || q) → T p ⊎ T q
 either true q t = inl tt
@@ -31,7 +31,7 @@ module _ (k : ℕ) (small : k ≤ 2 ^ 53) where
   unfolding floorOf toUnsigned wholeBelow inFloat
   floor-within m e h =
       let part : m * up e / down e ≤ k = rw (div-one k) at (div-mono (m * up e) (down e) k 1 (down-pos e) (lit< tt) (rw (mul-one (m * up e)) h)) in
-      cases (eqb (m * up e % down e) 0) (λ t. rw t (omega arith))
+      by-test (eqb (m * up e % down e) 0) (λ t. rw t (omega arith))
       (λ t. rw (t, unsigned-back binary64 64 (m * up e / down e) (le→leb (m * up e / down e) (2 ^ 53) (omega arith)) (omega arith) .1) part)
 
   part-within : (K r : Float) (g : ℕ) → HasValue K false k 1 → (T (finite r) → HasValue r false g (2 ^ 1074)) → T (le r K) → toUnsigned 64 (floorOf r) ≤ k

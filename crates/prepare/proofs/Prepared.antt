@@ -18,7 +18,8 @@ use Rattle.ieee.proofs.Exact.{count-exact, negative-exact}
 use Rattle.times.specs.Milli.{timeLimit, Within}
 use Rattle.times.proofs.Order.{offset-of, offset-end}
 use Rattle.times.proofs.Milli.{within-sub}
-use Rattle.times.proofs.Order.{by-test, lt-le, lt-not-le, le-refl}
+use Rattle.ieee.proofs.Tests.{by-test}
+use Rattle.times.proofs.Order.{lt-le, lt-not-le, le-refl}
 use Rattle.ieee.specs.Patterns.{floats}
 use Rattle.ieee.specs.Value.{secondsOf}
 use Rattle.prepare.specs.Steps.{plusZero, resetsFrom, deltasFrom, deltas, sloped, derivsFrom, derivs, wholeSeconds, intervalsFrom, secondTwice, preparedOf}
@@ -27,7 +28,7 @@ use Rattle.prepare.specs.declared.steps.PreFunction.{PreFunction}
 use Rattle.prepare.specs.declared.steps.PreFunction.the-variants.{None, Resets, Delta, Deriv, Intervals}
 use Rattle.series.proofs.Accepted.{AcceptedSeries}
 use Rattle.series.proofs.All.{All, Finite, Number, finite-all}
-use Rattle.prepare.proofs.Numbers.{finite-number, sub-number, div-number, seconds-positive}
+use Rattle.ieee.proofs.Numbers.{finite-number, sub-number, div-number, seconds-positive}
 use Rattle.prepare.specs.declared.steps.Counter.{Counter}
 use Rattle.prepare.proofs.Resets.{resets-numbers}
 use Rattle.series.proofs.Times.{within-list}

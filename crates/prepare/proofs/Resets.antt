@@ -16,11 +16,11 @@ use lib.Ieee.Fits.{add-fits, inf-fits}
 use lib.Ieee.Scale.{finite}
 use Rattle.ieee.proofs.Rank.{rank}
 use Rattle.ieee.proofs.Order.{lt-rank, le-rank}
-use Rattle.times.proofs.Order.{by-test}
+use Rattle.ieee.proofs.Tests.{by-test}
 use Rattle.prepare.specs.declared.steps.Counter.{Counter}
 use Rattle.prepare.specs.Steps.{plusZero, eight, counterAfter, grown, lifted, resetsFrom, resets}
 use Rattle.series.proofs.All.{All, Finite, Number}
-use Rattle.prepare.proofs.Numbers.{add-number, finite-add-number, sub-swap}
+use Rattle.ieee.proofs.Numbers.{add-number, finite-add-number, sub-swap}
 
 abbrev fine : Float → Float → Bool
 fine nan p = false

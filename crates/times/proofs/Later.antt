@@ -15,7 +15,8 @@ use Rattle.times.specs.Later.{NotFalling, Rising, firstAfter}
 use Rattle.times.specs.Readings.{filter}
 use Rattle.times.proofs.Leading.{leading-le}
 use Rattle.times.proofs.Readings.{filter-and, map-drop}
-use Rattle.times.proofs.Order.{by-test, le-trans, lt-le, lt-not-le, le-refl, after-trans}
+use Rattle.ieee.proofs.Tests.{by-test}
+use Rattle.times.proofs.Order.{le-trans, lt-le, lt-not-le, le-refl, after-trans}
 
 -- ---- order in a list
 

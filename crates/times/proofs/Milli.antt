@@ -12,7 +12,7 @@ use mir.Syntax.{w64}
 use mir.Val.{SFits, toZ, ofZ}
 use mir.Facts.{toZ-ofZ}
 use Rattle.times.specs.Milli.{Within}
-use Rattle.times.proofs.Order.{by-test}
+use Rattle.ieee.proofs.Tests.{by-test}
 
 -- what the machine reads back from the bits of an `i64`
 abbrev pub readBack : ℤ → ℤ

@@ -8,11 +8,7 @@ use borrow.Author.Tests.{lt-ltb, le-ltb, le-leb, lt-leb, ltb-true, ltb-false, le
 use lib.Dec.{ltb, leb}
 use lib.IntN.{ℤ, pos, negsuc, negℤ, natAbs, _+ℤ_, _-ℤ_, +ℤ-assoc, +ℤ-comm, +ℤ-idr, +ℤ-negℤ-cancel, -ℤ-+ℤ-cancel}
 use lib.Signed.{ltZ, leZ}
-
--- by a test's answer
-pub by-test {ℓ} : {P : Type ℓ} (b : Bool) → (b ≡ true → P) → (b ≡ false → P) → P
-by-test true y n = y refl
-by-test false y n = n refl
+use Rattle.ieee.proofs.Tests.{by-test}
 
 -- two tests with the same answer
 pub same-leb : (m n k l : ℕ) → (m ≤ n → k ≤ l) → (n < m → l < k) → leb m n ≡ leb k l

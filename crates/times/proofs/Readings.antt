@@ -7,7 +7,7 @@ use mathlib.Core.Bool.{Bool, _&&_}
 use mathlib.Core.List.{List, [], _∷_, map, zipWith}
 use lib.ListN.{length, getD, take, drop}
 use Rattle.times.specs.Readings.{filter}
-use Rattle.times.proofs.Order.{by-test}
+use Rattle.ieee.proofs.Tests.{by-test}
 
 module _ {A : Type 0} where
   -- two tests at once are one after the other

@@ -1,9 +1,14 @@
--- What a rollup may take for granted of the times it is handed: they are so small that their differences fit an i64.
+-- What a rollup may take for granted of the times it is handed: they are so small that their differences fit an i64. Beside it, what a
+-- loop may go by that reads values without a look for NaN.
 -- Assumes nothing.
 use mathlib.Core.List.{List}
-use Prim.Native.Nat.{ℕ, _≤_, _^_}
-use lib.ListN.{getD}
+use mathlib.Core.Bool.{true}
+use mathlib.Core.Path.{_≡_}
+use Prim.Native.Nat.{ℕ, _≤_, _<_, _^_}
+use lib.ListN.{getD, length}
 use lib.IntN.{ℤ, pos, natAbs}
+use lib.Ieee.{binary64, ofBits}
+use lib.Ieee.Scale.{finite}
 use Rattle.window.specs.declared.types.RollupFuncArg.{RollupFuncArg}
 
 -- how far from 0 a time of a record may lie: with times within ±2^50 and a window and a reach of at most 2^52, none lies further
@@ -22,3 +27,7 @@ pub record Ranged (r : RollupFuncArg) (ts : List ℤ) : Type 0 where
   pub prev : InRange (r .«prev_timestamp»)
   pub window : InRange (r .window)
   pub times : AllInRange ts
+
+-- every pattern of a window stands for a finite value
+abbrev pub AllFinite : List ℕ → Type 0
+AllFinite l = (i : ℕ) → i < length l → finite (ofBits binary64 (getD l i 0)) ≡ true

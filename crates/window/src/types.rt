@@ -1,6 +1,6 @@
 // The window record that every rollup is handed, and how a rollup reads the window beside it.
 
-ghost use mathlib.Core.Bool.{cond};
+ghost use mathlib.Core.Bool.{cond, true};
 ghost use mathlib.Core.Path.{_≡_};
 ghost use Prim.Native.Nat.{_+_, _-_, _≤_, _<_, _^_};
 ghost use lib.ListN.{drop, getD, length, take};
@@ -8,8 +8,10 @@ ghost use lib.IntN.{natAbs, pos, _-ℤ_};
 ghost use lib.Signed.{ltZ};
 ghost use lib.Ieee as Ieee;
 ghost use lib.Ieee.{binary64, isNan, ofBits};
+ghost use lib.Ieee.Scale.{finite};
 ghost use Rattle.ieee.specs.Patterns.{floats};
 ghost use Rattle.ieee.specs.Value.{secondsOf};
+ghost use Rattle.window.specs.Types.{AllFinite};
 ghost use Rattle.window.specs.Window.{firstOf, firstOr, lastOf, lastOr, upToLast};
 
 pub struct RollupFuncArg {
@@ -41,6 +43,36 @@ pub fn value_at(values: &[u64], i: usize) -> f64
     ensures { λ r. ⌜ r ≡ ofBits binary64 (getD (now (values .entry)) i 0) ⌝ }
 {
     ieee::value_of(values[i])
+}
+
+// 0 for the pattern of a finite value, else 1: with the sign's bit taken off and the infinity's distance to 2^63 put on, the highest bit.
+fn one_unless_finite(b: u64) -> u64
+    ensures { λ r. ⌜ r ≡ cond (finite (ofBits binary64 b)) 0 1 ⌝ }
+{
+    (b % 0x8000_0000_0000_0000 + 0x0010_0000_0000_0000) / 0x8000_0000_0000_0000
+}
+
+// Whether every value is known to be finite. The loop adds and has no other way out, so that it takes several values at a time:
+// a loop that reads the values after it by `finite_at` is spared more than this one costs.
+pub fn are_finite(values: &[u64]) -> bool
+    ensures { λ r. ⌜ (r ≡ true → AllFinite (now (values .entry))) ⌝ }
+{
+    let mut others = 0;
+    let mut i = 0;
+    while i < values.len() {
+        others += one_unless_finite(values[i]);
+        i += 1;
+    }
+    others == 0
+}
+
+// The value at i, where all are finite.
+pub fn finite_at(values: &[u64], i: usize) -> f64
+    requires within { ⌜ i < length (now values) ⌝ }
+    requires numbers { ⌜ AllFinite (now values) ⌝ }
+    ensures { λ r. ⌜ r ≡ ofBits binary64 (getD (now (values .entry)) i 0) ⌝ }
+{
+    ieee::number_of(values[i])
 }
 
 // The first value, NaN where there is none.

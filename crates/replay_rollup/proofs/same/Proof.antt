@@ -17,7 +17,7 @@ use Rattle.series.specs.Rows.{timesChecked}
 use Rattle.series.specs.declared.refusal.Checked.the-variants.{Accepted}
 use Rattle.series.proofs.Accepted.{accepted-times}
 use Rattle.series.proofs.Times.{within-all}
-use Rattle.times.proofs.Order.{by-test}
+use Rattle.ieee.proofs.Tests.{by-test}
 use Rattle.replay_rollup.proofs.same.Statement.{statement}
 use Rattle.replay_rollup.proofs.same.Tie as tie
 

@@ -10,7 +10,7 @@ use lib.Ieee.{binary64, isNan, ofBits, sub}
 use lib.Ieee.Scale.{finite}
 use Rattle.ieee.specs.Patterns.{floats, patterns}
 use Rattle.prepare.specs.Steps.{deltas, deltasFrom}
-use Rattle.prepare.proofs.Numbers.{finite-number, sub-number}
+use Rattle.ieee.proofs.Numbers.{finite-number, sub-number}
 use Rattle.prepare.proofs.Written.{Written, turn, last, left-at}
 use Rattle.prepare.proofs.steps.delta_values.Statement.{statement}
 use Rattle.prepare.proofs.steps.delta_values.Tie as tie

@@ -10,7 +10,7 @@ use mir.Facts.{toZ-ofZ}
 use lib.Ieee.{Float}
 use Rattle.times.specs.Milli.{timeLimit, Within}
 use Rattle.times.proofs.Milli.{within-fits}
-use Rattle.times.proofs.Order.{by-test}
+use Rattle.ieee.proofs.Tests.{by-test}
 use Rattle.prepare.specs.declared.steps.Slope.{Slope}
 use Rattle.ieee.specs.Patterns.{floats, patterns}
 use Rattle.prepare.specs.Steps.{derivs, derivsFrom, sloped}

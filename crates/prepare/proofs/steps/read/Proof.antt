@@ -8,7 +8,7 @@ use lib.Ieee.{binary64, ofBits}
 use lib.Ieee.Scale.{finite}
 use Rattle.times.proofs.Leading.{all-good}
 use Rattle.series.specs.Rows.{finiteBits}
-use Rattle.prepare.proofs.Numbers.{finite-number}
+use Rattle.ieee.proofs.Numbers.{finite-number}
 use Rattle.prepare.proofs.steps.read.Statement.{statement}
 use Rattle.prepare.proofs.steps.read.Tie as tie
 

@@ -14,10 +14,10 @@ use lib.Ieee.Scale.{finite, round-same}
 use lib.Ieee.Positive.{positive, between}
 use lib.Ieee.Order.{round-mono}
 use lib.Ieee.Exact.{HasValue}
 use Rattle.ieee.proofs.Exact.{count-exact}
 use Rattle.ieee.proofs.Patterns.{odd-finite}
-use Rattle.times.proofs.Order.{by-test}
+use Rattle.ieee.proofs.Tests.{by-test}
 use Rattle.ieee.specs.Value.{secondsOf}
 
 -- ---- what `round` gives is a number, and whether it is finite does not turn on the sign
 
