@@ -38,59 +38,56 @@ fn main() {
     }
 }
 
-/// A table's line: the port's time, and the Rust's where it does not panic.
+/// A table's line: the port's time, the Rust's where it does not panic, and the time of the work that
+/// the Rust is charged with, taken beside them and as often.
 struct Line {
     name: String,
     port: f64,
     rust: Option<f64>,
-}
-
-/// The lines of one call, with the time of the work that the Rust is charged with.
-struct Timed {
     charge: f64,
-    lines: Vec<Line>,
 }
 
 impl Line {
     /// The Rust's time with the charge, over the port's.
-    fn fair(&self, charge: f64) -> Option<f64> {
-        self.rust.map(|rust| (rust + charge) / self.port)
+    fn fair(&self) -> Option<f64> {
+        self.rust.map(|rust| (rust + self.charge) / self.port)
     }
 
-    fn cells(&self, charge: f64) -> String {
+    fn cells(&self) -> String {
         let or = |cell: Option<f64>, none: &str| {
             cell.map_or(none.to_string(), |time| format!("{time:.2}"))
         };
-        format!("{:.2} | {} | {} |", self.port, or(self.rust, "panics"), or(self.fair(charge), ""))
+        format!("{:.2} | {} | {} |", self.port, or(self.rust, "panics"), or(self.fair(), ""))
     }
 }
 
-impl Timed {
-    /// The sum of the lines that have both times, of which so many are charged.
-    fn all(&self) -> (Line, f64) {
-        let both = || self.lines.iter().filter_map(|line| Some((line.port, line.rust?)));
-        let port = both().map(|(port, _)| port).sum();
-        let rust = Some(both().map(|(_, rust)| rust).sum());
-        (Line { name: "all".to_string(), port, rust }, self.charge * both().count() as f64)
+/// The sum of the lines that have both times.
+fn all(lines: &[Line]) -> Line {
+    let sum = |of: fn(&Line) -> f64| lines.iter().filter(|line| line.rust.is_some()).map(of).sum();
+    Line {
+        name: "all".to_string(),
+        port: sum(|line| line.port),
+        rust: Some(sum(|line| line.rust.unwrap())),
+        charge: sum(|line| line.charge),
     }
 }
 
 /// A table: a line for each name, with the times of each call.
-fn table(title: &str, readings: usize, first: &str, calls: &[Timed]) {
+fn table(title: &str, readings: usize, first: &str, calls: &[Vec<Line>]) {
     println!("{readings} readings, {title}, best of {ROUNDS}\n");
     println!("| {first} |{}", " port | Rust | fair |".repeat(calls.len()));
     println!("|---|{}", "---|---|---|".repeat(calls.len()));
-    for (i, line) in calls[0].lines.iter().enumerate() {
-        let cells: Vec<_> = calls.iter().map(|call| call.lines[i].cells(call.charge)).collect();
+    for (i, line) in calls[0].iter().enumerate() {
+        let cells: Vec<_> = calls.iter().map(|lines| lines[i].cells()).collect();
         println!("| {} | {}", line.name, cells.join(" "));
     }
-    let sums = calls.iter().map(Timed::all);
-    let cells: Vec<_> = sums.map(|(sum, charge)| sum.cells(charge)).collect();
-    println!("| all | {}\n", cells.join(" "));
-    for call in calls {
-        let fair = || call.lines.iter().filter_map(|line| line.fair(call.charge));
+    let sums: Vec<_> = calls.iter().map(|lines| all(lines).cells()).collect();
+    println!("| all | {}\n", sums.join(" "));
+    for lines in calls {
+        let fair = || lines.iter().filter_map(Line::fair);
         let ahead = fair().filter(|ratio| *ratio >= 1.0).count();
-        println!("charged {:.2} ms; ahead on {ahead} of {}", call.charge, fair().count());
+        let charge = all(lines).charge / fair().count() as f64;
+        println!("charged {charge:.2} ms a line; ahead on {ahead} of {}", fair().count());
     }
     println!();
 }
@@ -110,19 +107,18 @@ fn prepare(readings: usize) {
                 })
             })
         };
-        // A prepared slice that is too short is refused after the checks.
-        let charge = port(0, readings - 1, 13);
         let line = |(step, name): (usize, &&str)| {
+            // A prepared slice that is too short is refused after the checks.
+            let charge = port(0, readings - 1, 13);
             let rust = best(|| {
                 ms(|| {
                     copy.copy_from_slice(&values);
                     judge::prepare(step, &timestamps, &mut copy);
                 })
             });
-            Line { name: name.to_string(), port: port(step, readings, 0), rust: Some(rust) }
+            Line { name: name.to_string(), port: port(step, readings, 0), rust: Some(rust), charge }
         };
-        let lines = STEPS.iter().enumerate().map(line).collect();
-        table(title, readings, "step", &[Timed { charge, lines }]);
+        table(title, readings, "step", &[STEPS.iter().enumerate().map(line).collect()]);
     }
 }
 
@@ -142,22 +138,24 @@ fn run(readings: usize) {
 }
 
 /// The times of each rollup, and of avg after each step.
-fn runs(mut case: Case, values: &[f64]) -> Timed {
+fn runs(mut case: Case, values: &[f64]) -> Vec<Line> {
     let mut outcome = Outcome::before(&case);
-    let charge = fixed(&case, &mut outcome);
+    let fixed = fixed(&case);
     let mut lines = vec![];
     for (number, (name, _)) in ROLLUPS.iter().enumerate() {
         case.rollup = number as u32;
+        let charge = port_ms(&fixed, &mut outcome);
         let port = port_ms(&case, &mut outcome);
         let rust = || rust(&case, values);
         let rust = judge::caught(rust).map(|_| best(|| ms(rust)));
-        lines.push(Line { name: name.to_string(), port, rust });
+        lines.push(Line { name: name.to_string(), port, rust, charge });
     }
     case.rollup = 0;
     // The charge has a copy, so that the one which a pre-function changes is not timed.
     let mut copy = values.to_vec();
     for (pre, name) in STEPS.iter().enumerate().skip(1) {
         case.pre = pre as u32;
+        let charge = port_ms(&fixed, &mut outcome);
         let port = port_ms(&case, &mut outcome);
         let rust = best(|| {
             copy.copy_from_slice(values);
@@ -166,19 +164,18 @@ fn runs(mut case: Case, values: &[f64]) -> Timed {
                 rust(&case, &copy)
             })
         });
-        lines.push(Line { name: format!("avg after {name}"), port, rust: Some(rust) });
+        lines.push(Line { name: format!("avg after {name}"), port, rust: Some(rust), charge });
     }
-    Timed { charge, lines }
+    lines
 }
 
 /// What the port does besides figures and the Rust does not: the checks of the series, the copy into
 /// the prepared slice and the clearing of the work slice. It is a run that counts the readings of
 /// one window.
-fn fixed(case: &Case, outcome: &mut Outcome) -> f64 {
+fn fixed(case: &Case) -> Case {
     let rollup = ROLLUPS.iter().position(|(name, _)| *name == "count").unwrap() as u32;
     let settings = Settings { end: case.settings.start, ..case.settings.clone() };
-    let case = Case { rollup, settings, ..case.clone() };
-    best(|| port_ms(&case, outcome))
+    Case { rollup, settings, ..case.clone() }
 }
 
 fn growth(most: usize) {

@@ -1,9 +1,9 @@
 // The rollups of delta.rs: how much a series grew.
 
+use ieee::nan;
 use window::types::RollupFuncArg;
 use window::types::first;
 use window::types::last;
-use window::types::nan;
 use window::types::rest;
 use window::types::value_at;
 ghost use mathlib.Core.Path.{_≡_};

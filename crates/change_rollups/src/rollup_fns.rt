@@ -1,5 +1,6 @@
 // The rollups of rollup_fns.rs that go from value to value. Each answers NaN for a window that does not settle it.
 
+use ieee::nan;
 use value_rollups::rollup_fns::is_beyond;
 use window::types::RollupFuncArg;
 use window::types::after_seed;
@@ -7,7 +8,6 @@ use window::types::are_finite;
 use window::types::finite_at;
 use window::types::first;
 use window::types::last;
-use window::types::nan;
 use window::types::rest;
 use window::types::seed;
 use window::types::value_at;

@@ -9,7 +9,7 @@ pub fn stdvar(values: &[u64]) -> f64
     ensures { λ r. ⌜ r ≡ stdvarOf (floats (now (values .entry))) ⌝ }
 {
     if values.len() == 0 {
-        return 0.0 / 0.0;
+        return ieee::nan();
     }
     if values.len() == 1 {
         return 0.0;
@@ -29,7 +29,7 @@ pub fn stdvar(values: &[u64]) -> f64
         i += 1;
     }
     if count == 0 {
-        return 0.0 / 0.0;
+        return ieee::nan();
     }
     q / ieee::of_count(count)
 }

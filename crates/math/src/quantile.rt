@@ -56,10 +56,10 @@ pub fn quantile_sorted(phi: f64, values: &[f64]) -> f64
 {
     let n = values.len();
     if n == 0 {
-        return 0.0 / 0.0;
+        return ieee::nan();
     }
     if ieee::is_nan(phi) {
-        return 0.0 / 0.0;
+        return ieee::nan();
     }
     if phi < 0.0 {
         return -1.0 / 0.0;

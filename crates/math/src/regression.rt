@@ -97,8 +97,8 @@ pub fn linear_regression(values: &[u64], timestamps: &[i64], intercept_time: i64
     let n = values.len();
     if n == 0 {
         return Line {
-            v: 0.0 / 0.0,
-            k: 0.0 / 0.0,
+            v: ieee::nan(),
+            k: ieee::nan(),
         };
     }
     if are_const_values(values) {

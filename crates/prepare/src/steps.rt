@@ -167,7 +167,7 @@ pub fn calc_sample_intervals_pre_fn(timestamps: &[i64], prepared: &mut [u64])
     requires { ⌜ length (now prepared) ≡ length (now timestamps) ⌝ }
     ensures { λ _. ⌜ now (prepared .exit) ≡ patterns (intervals (now (timestamps .entry))) ⌝ }
 {
-    let mut prev = 0.0 / 0.0;
+    let mut prev = ieee::nan();
     let mut i = 0;
     while i < timestamps.len() {
         let secs = whole_seconds(timestamps[i]);

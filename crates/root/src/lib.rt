@@ -99,7 +99,7 @@ pub fn sqrt(x: f64) -> f64
             x
         }
     } else if x < 0.0 {
-        0.0 / 0.0
+        ieee::nan()
     } else {
         x
     }

@@ -19,7 +19,7 @@ fn value_at(values: &[u64], k: usize) -> f64
     if k < values.len() {
         ieee::value_of(values[k])
     } else {
-        0.0 / 0.0
+        ieee::nan()
     }
 }
 
@@ -30,7 +30,7 @@ fn value_before(values: &[u64], k: usize) -> f64
     if k > 0 {
         value_at(values, k - 1)
     } else {
-        0.0 / 0.0
+        ieee::nan()
     }
 }
 
@@ -52,7 +52,7 @@ fn predecessor_time(timestamps: &[i64], i: usize, limit: i64) -> i64
 fn value_if(time: i64, limit: i64, x: f64) -> f64
     ensures { λ r. ⌜ r ≡ valueIf (ltZ limit time) x ⌝ }
 {
-    if time > limit { x } else { 0.0 / 0.0 }
+    if time > limit { x } else { ieee::nan() }
 }
 
 // The record at t_end, for the course's window and reach.

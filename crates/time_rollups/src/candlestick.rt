@@ -1,13 +1,13 @@
 // The rollups of candlestick.rs: the first, last, greatest and least value of a window whose last reading
 // below the output time is left out, with those after it.
 
+use ieee::nan;
 use value_rollups::rollup_fns::extreme;
 use window::types::RollupFuncArg;
 use window::types::after_seed;
 use window::types::count_up_to;
 use window::types::is_before;
 use window::types::last;
-use window::types::nan;
 use window::types::prefix;
 use window::types::seed;
 ghost use mathlib.Core.Path.{_≡_};

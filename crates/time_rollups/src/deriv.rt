@@ -1,12 +1,12 @@
 // The rollups of deriv.rs: how fast a series grows, a second.
 
+use ieee::nan;
 use window::types::RollupFuncArg;
 use window::types::count_up_to;
 use window::types::first;
 use window::types::first_time;
 use window::types::last;
 use window::types::last_time;
-use window::types::nan;
 use window::types::seconds_between;
 use window::types::time_at;
 use window::types::value_at;

@@ -1,9 +1,9 @@
 // The rollup of integrate.rs: each value times the seconds it stood.
 
+use ieee::nan;
 use window::types::RollupFuncArg;
 use window::types::first;
 use window::types::first_time;
-use window::types::nan;
 use window::types::rest;
 use window::types::rest_times;
 use window::types::seconds_between;

@@ -1,5 +1,6 @@
 // The rollups of rollup_fns.rs that read a window's times. Each answers NaN for a window that does not settle it.
 
+use ieee::nan;
 use math::regression::Line;
 use value_rollups::rollup_fns::rollup_avg;
 use window::types::RollupFuncArg;
@@ -8,7 +9,6 @@ use window::types::first_time;
 use window::types::init;
 use window::types::last;
 use window::types::last_time;
-use window::types::nan;
 use window::types::seconds_between;
 use window::types::time_at;
 use window::types::value_at;

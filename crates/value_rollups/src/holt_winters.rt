@@ -1,8 +1,8 @@
 // The rollup of holt_winters.rs: double exponential smoothing.
 
+use ieee::nan;
 use window::types::RollupFuncArg;
 use window::types::first;
-use window::types::nan;
 use window::types::rest;
 use window::types::value_at;
 ghost use mathlib.Core.Path.{_≡_};

@@ -1,9 +1,9 @@
 // The rollups of rollup_fns.rs that answer from a window's values. Each answers NaN for a window that does not settle it.
 
+use ieee::nan;
 use window::types::RollupFuncArg;
 use window::types::first;
 use window::types::last;
-use window::types::nan;
 use window::types::value_at;
 ghost use mathlib.Core.List.{foldl};
 ghost use mathlib.Core.Path.{_≡_};

@@ -6,7 +6,6 @@ ghost use Prim.Native.Nat.{_+_, _-_, _≤_, _<_, _^_};
 ghost use lib.ListN.{drop, getD, length, take};
 ghost use lib.IntN.{natAbs, pos, _-ℤ_};
 ghost use lib.Signed.{ltZ};
-ghost use lib.Ieee as Ieee;
 ghost use lib.Ieee.{binary64, isNan, ofBits};
 ghost use lib.Ieee.Scale.{finite};
 ghost use Rattle.ieee.specs.Patterns.{floats};
@@ -28,13 +27,6 @@ pub struct RollupFuncArg {
     pub curr_timestamp: i64,
     // The window's length.
     pub window: i64,
-}
-
-// NaN.
-pub fn nan() -> f64
-    ensures { λ r. ⌜ r ≡ Ieee.nan ⌝ }
-{
-    0.0 / 0.0
 }
 
 // The value at i.
@@ -80,7 +72,7 @@ pub fn first(values: &[u64]) -> f64
     ensures { λ r. ⌜ r ≡ firstOf (floats (now (values .entry))) ⌝ }
 {
     if values.len() == 0 {
-        return nan();
+        return ieee::nan();
     }
     value_at(values, 0)
 }
@@ -90,7 +82,7 @@ pub fn last(values: &[u64]) -> f64
     ensures { λ r. ⌜ r ≡ lastOf (floats (now (values .entry))) ⌝ }
 {
     if values.len() == 0 {
-        return nan();
+        return ieee::nan();
     }
     value_at(values, values.len() - 1)
 }

@@ -90,11 +90,10 @@ returns-2 c =
     infinite (start .args .x) (held start) (c .before .before .if1 .taken) (rw (c .before .bits-of .ensures) at (c .if2 .left))
 
 returns-3 : tie.Need-returns-3
-unfolding div ofBits
-returns-3 c = negative (c .before .before .args .x) (c .if3 .taken)
+returns-3 c = c .nan .ensures ∙ negative (c .before .before .before .args .x) (c .before .if3 .taken)
 
 returns-4 : tie.Need-returns-4
 returns-4 c = neither (c .before .before .args .x) (c .before .if1 .left) (c .if3 .left)
 
 pub sqrt-spec : {M : Type 1} → statement M
-sqrt-spec = tie.close (tie.spec bits-of-requires positive-requires returns returns-2 returns-3 returns-4)
+sqrt-spec = tie.close (tie.spec bits-of-requires positive-requires (λ c κs. search needs) returns returns-2 returns-3 returns-4)

@@ -57,8 +57,7 @@ abbrev μ-loop : tie.MeasureT-loop
 μ-loop values avg₀ count₀ q₀ i₀ avg count q i = length values - i
 
 returns : tie.Need-returns Inv-loop μ-loop
-unfolding div ofBits
-returns c = sym (none (c .before .before .args .values .now) (c .if1 .taken))
+returns c = c .nan .ensures ∙ sym (none (c .before .before .before .args .values .now) (c .before .if1 .taken))
 
 returns-2 : tie.Need-returns-2 Inv-loop μ-loop
 returns-2 c = sym (one (c .before .before .before .args .values .now) (c .if2 .taken))
@@ -80,11 +79,11 @@ loop-again c =
     (c .if3 .came)
 
 returns-3 : tie.Need-returns-3 Inv-loop μ-loop
-unfolding div ofBits
 returns-3 c =
-    let at = c .before .before in
+    let at = c .before .before .before in
     let values = at .before .before .before .before .args .values .now in
-    sym (ended _ values (at .loop .i) (at .before .before .if1 .left) (at .before .if2 .left) (c .before .loop-test .left) (at .loop .inv .2) ∙ rw (eq-eqb (at .loop .count) 0 (c .if4 .taken)))
+    c .nan2 .ensures
+    ∙ sym (ended _ values (at .loop .i) (at .before .before .if1 .left) (at .before .if2 .left) (c .before .before .loop-test .left) (at .loop .inv .2) ∙ rw (eq-eqb (at .loop .count) 0 (c .before .if4 .taken)))
 
 returns-4 : tie.Need-returns-4 Inv-loop μ-loop
 returns-4 c =
@@ -93,4 +92,4 @@ returns-4 c =
     sym (ended _ values (at .loop .i) (at .before .before .if1 .left) (at .before .if2 .left) (c .before .before .loop-test .left) (at .loop .inv .2) ∙ rw (ne-eqb (at .loop .count) 0 (c .before .if4 .left), c .of-count2 .ensures))
 
 pub stdvar-spec : {M : Type 1} → statement M
-stdvar-spec = tie.close (tie.spec Inv-loop μ-loop returns returns-2 loop-holds (λ c. search needs) (λ c. search needs) (λ c κs. search needs) (λ c κs. search needs) (λ c. search needs) (λ c κs. search needs) (λ c. search needs) (λ c. search needs) loop-again returns-3 (λ c κs. search needs) returns-4)
+stdvar-spec = tie.close (tie.spec Inv-loop μ-loop (λ c κs. search needs) returns returns-2 loop-holds (λ c. search needs) (λ c. search needs) (λ c κs. search needs) (λ c κs. search needs) (λ c. search needs) (λ c κs. search needs) (λ c. search needs) (λ c. search needs) loop-again (λ c κs. search needs) returns-3 (λ c κs. search needs) returns-4)

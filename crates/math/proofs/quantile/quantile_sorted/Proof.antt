@@ -9,12 +9,12 @@ use Rattle.math.proofs.quantile.quantile_sorted.Statement.{statement}
 use Rattle.math.proofs.quantile.quantile_sorted.Tie as tie
 
 returns : tie.Need-returns
-unfolding quantileSorted div neg ofBits
-returns c = rw (eq-eqb _ 0 (c .if1 .taken))
+unfolding quantileSorted
+returns c = rw (eq-eqb _ 0 (c .before .if1 .taken)) (c .nan .ensures)
 
 returns-2 : tie.Need-returns-2
-unfolding quantileSorted div neg ofBits
-returns-2 c = rw (ne-eqb _ 0 (c .before .before .if1 .left), sym (c .before .is-nan .ensures) ∙ c .if2 .taken)
+unfolding quantileSorted
+returns-2 c = rw (ne-eqb _ 0 (c .before .before .before .if1 .left), sym (c .before .before .is-nan .ensures) ∙ c .before .if2 .taken) (c .nan2 .ensures)
 
 returns-3 : tie.Need-returns-3
 unfolding quantileSorted div neg ofBits
@@ -31,4 +31,4 @@ returns-5 c =
     rw (c .before .before .at-most2 .ensures, c .before .before .before .at-most .ensures, c .before .before .before .before .to-usize .ensures, c .before .before .before .before .before .floor .ensures, c .before .before .before .before .before .before .of-count .ensures, ne-eqb _ 0 (tested .before .before .before .before .if1 .left), sym (tested .before .before .before .is-nan .ensures) ∙ tested .before .before .if2 .left, tested .before .if3 .left, tested .if4 .left)
 
 pub quantile-sorted-spec : {M : Type 1} → statement M
-quantile-sorted-spec = tie.close (tie.spec returns (λ c κs. search needs) returns-2 returns-3 returns-4 (λ c. search needs) (λ c κs. search needs) (λ c κs. search needs) (λ c κs. search needs) (λ c. search needs) (λ c κs. search needs) (λ c. search needs) (λ c. search needs) (λ c κs. search needs) (λ c. search needs) (λ c. search needs) (λ c. search needs) (λ c. search needs) returns-5)
+quantile-sorted-spec = tie.close (tie.spec (λ c κs. search needs) returns (λ c κs. search needs) (λ c κs. search needs) returns-2 returns-3 returns-4 (λ c. search needs) (λ c κs. search needs) (λ c κs. search needs) (λ c κs. search needs) (λ c. search needs) (λ c κs. search needs) (λ c. search needs) (λ c. search needs) (λ c κs. search needs) (λ c. search needs) (λ c. search needs) (λ c. search needs) (λ c. search needs) returns-5)

@@ -32,8 +32,9 @@ sloped [] ts t some e = absurd (some refl)
 sloped (b ∷ bs) ts t some e = rw (e, length-map bs (ofBits binary64))
 
 returns : tie.Need-returns
-unfolding div ofBits
-returns c = sym (none (c .before .before .args .values .now) (c .before .before .args .timestamps .now) (c .before .before .args .intercept-time) (c .if1 .taken))
+returns c =
+    let s = c .before .before .before .before in
+    rw (c .before .nan .ensures, c .nan2 .ensures) (sym (none (s .args .values .now) (s .args .timestamps .now) (s .args .intercept-time) (c .before .before .if1 .taken)))
 
 returns-2 : tie.Need-returns-2
 returns-2 c =
@@ -49,4 +50,4 @@ returns-3 c =
     ∙ rw (c .before .before .sum-up .ensures, c .before .of-count .ensures, toZ-ofZ w64 (s .args .intercept-time) (s .fits .intercept-time)) (sym (sloped (s .args .values .now) (s .args .timestamps .now) (s .args .intercept-time) (tested .before .if1 .left) (sym (tested .are-const-values .ensures) ∙ c .before .before .before .if2 .left)))
 
 pub linear-regression-spec : {M : Type 1} → statement M
-linear-regression-spec = tie.close (tie.spec returns (λ c κs. search needs) (λ c. search needs) (λ c κs. search needs) returns-2 (λ c κs. search needs) (λ c κs. search needs) (λ c κs. search needs) returns-3)
+linear-regression-spec = tie.close (tie.spec (λ c κs. search needs) (λ c κs. search needs) returns (λ c κs. search needs) (λ c. search needs) (λ c κs. search needs) returns-2 (λ c κs. search needs) (λ c κs. search needs) (λ c κs. search needs) returns-3)

@@ -2,7 +2,6 @@
 -- Assumes nothing.
 use borrow.Author.Needs.{needs}
 use borrow.Author.Tests.{lt-ltb, le-ltb}
-use lib.Ieee.{div, ofBits}
 use Rattle.run.proofs.record.value_before.Statement.{statement}
 use Rattle.run.proofs.record.value_before.Tie as tie
 
@@ -10,8 +9,7 @@ returns : tie.Need-returns
 returns c = simp (lt-ltb _ _ (c .before .if1 .taken)) (c .value-at .ensures)
 
 returns-2 : tie.Need-returns-2
-unfolding div ofBits
-returns-2 c = simp (le-ltb _ _ (c .if1 .left))
+returns-2 c = simp (le-ltb _ _ (c .before .if1 .left)) (c .nan .ensures)
 
 pub value-before-spec : {M : Type 1} → statement M
-value-before-spec = tie.close (tie.spec (λ c. search needs) (λ c κs. search needs) returns returns-2)
+value-before-spec = tie.close (tie.spec (λ c. search needs) (λ c κs. search needs) (λ c κs. search needs) returns returns-2)

@@ -1,9 +1,9 @@
--- `window::types::nan` meets its contract: 0.0 / 0.0 is NaN.
+-- `ieee::nan` meets its contract: 0.0 / 0.0 is NaN.
 -- Assumes nothing.
 use mathlib.Core.Path.{refl}
 use lib.Ieee.{div, ofBits}
-use Rattle.window.proofs.types.nan.Statement.{statement}
-use Rattle.window.proofs.types.nan.Tie as tie
+use Rattle.ieee.proofs.nan.Statement.{statement}
+use Rattle.ieee.proofs.nan.Tie as tie
 
 returns : tie.Need-returns
 unfolding div ofBits
