@@ -1,6 +1,6 @@
 -- The mode as common/math.rs has it: the longest run of equal samples among the sorted ones, the first of equally long runs.
 -- The predecessor stands before the sorted samples for one sample, so that it joins a run of the least. The Rust's i − j is the length of the run at hand.
-use mathlib.Core.Bool.{Bool, true, false, cond, _||_}
+use mathlib.Core.Bool.{Bool, cond, _||_}
 use mathlib.Core.List.{List, foldl}
 use Prim.Native.Nat.{ℕ, _+_}
 use lib.Dec.{ltb}

@@ -1,7 +1,6 @@
 -- The least-squares line as common/math.rs has it, over seconds since an intercept time.
 use mathlib.Core.Bool.{Bool, true, cond, _&&_}
 use mathlib.Core.List.{List, [], _∷_}
-use Prim.Native.Nat.{ℕ}
 use lib.IntN.{ℤ, pos, _-ℤ_}
 use lib.ListN.{length}
 use lib.Ieee.{Float, nan, binary64, add, sub, mul, div, eq, le, ofBits, ofInt}

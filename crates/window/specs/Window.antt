@@ -6,7 +6,7 @@ use mathlib.Core.Bool.{Bool, true, false, cond}
 use Prim.Native.Nat.{ℕ, zero, suc}
 use lib.ListN.{drop}
 use lib.IntN.{ℤ, pos}
-use lib.Ieee.{Float, nan, binary64, div, isNan, lt, ofBits, ofInt}
+use lib.Ieee.{Float, nan, binary64, isNan, lt, ofBits, ofInt}
 
 -- each value with its time
 unfoldable pub readings : List Float → List ℤ → List (Float × ℤ)

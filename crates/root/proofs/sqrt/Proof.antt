@@ -9,7 +9,7 @@ use native.Mathlib.Nat.{eq-zero-or-pos, not-le-of-lt, mul-pos, zero-lt-suc}
 use native.Mathlib.Omega.{arith}
 use lib.IntN.{ℤ}
 use lib.Dec.{T}
-use lib.Ieee.{Float, nan, inf, fin, binary64, up, down, lt, div, fits, ofBits, toBits}
+use lib.Ieee.{Float, nan, inf, fin, binary64, up, down, lt, fits, ofBits, toBits}
 use lib.Ieee.Digits.{size-le}
 use lib.Ieee.Fits.{up-pos, kept-lt}
 use lib.Ieee.Bits.{ofBits-toBits}

@@ -1,6 +1,5 @@
 -- `change_rollups::rollup_fns::finite_below_tolerance` meets its contract: it is the definition, and neither value nor step is NaN.
 -- Assumes nothing.
-use borrow.Author.Needs.{needs}
 use lib.Ieee.{binary64}
 use Rattle.ieee.proofs.Numbers.{finite-number, sub-number}
 use Rattle.change_rollups.proofs.rollup_fns.finite_below_tolerance.Statement.{statement}

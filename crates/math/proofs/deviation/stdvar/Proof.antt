@@ -9,7 +9,7 @@ use native.Mathlib.Omega.{arith}
 use borrow.Author.Needs.{needs}
 use borrow.Author.Tests.{not-true, not-false, eq-eqb, ne-eqb}
 use lib.ListN.{length, drop}
-use lib.Ieee.{Float, nan, isNan, binary64, ofBits, div}
+use lib.Ieee.{Float, nan, isNan, binary64, ofBits}
 use Rattle.ieee.specs.Patterns.{floats}
 use Rattle.math.specs.Deviation.{Spread, spreadStep, spreadWith, variance, stdvarOf}
 use Rattle.ieee.proofs.Folding.{values-turn, values-end}

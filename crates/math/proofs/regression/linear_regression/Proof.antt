@@ -10,7 +10,7 @@ use lib.IntN.{ℤ, pos}
 use mir.Syntax.{w64}
 use mir.ValLaws.{toZ-ofZ}
 use lib.ListN.{length, getD, length-map}
-use lib.Ieee.{nan, binary64, div, ofBits, ofInt}
+use lib.Ieee.{nan, binary64, ofBits, ofInt}
 use Rattle.ieee.specs.Patterns.{floats}
 use Rattle.math.specs.Regression.{areConst, noSums, sumsFrom, lineOf, regressionOf}
 use Rattle.math.proofs.regression.linear_regression.Statement.{statement}

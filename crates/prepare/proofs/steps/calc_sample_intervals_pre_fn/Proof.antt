@@ -7,7 +7,7 @@ use native.Mathlib.Omega.{arith}
 use borrow.Author.Needs.{needs}
 use lib.ListN.{length, getD, set, drop, length-set, drop-of-length-le}
 use lib.IntN.{pos}
-use lib.Ieee.{Float, nan, div, ofBits}
+use lib.Ieee.{Float, nan}
 use Rattle.times.proofs.Milli.{read-back}
 use Rattle.ieee.specs.Patterns.{patterns}
 use Rattle.prepare.specs.Steps.{wholeSeconds, intervalsFrom, secondTwice}

@@ -2,7 +2,6 @@
 -- Assumes nothing.
 use mathlib.Core.Path.{ap}
 use Rattle.math.specs.declared.regression.Line.{Line}
-use Rattle.ieee.specs.Patterns.{floats}
 use Rattle.window.proofs.Times.{back, fits-after}
 use Rattle.time_rollups.specs.Deriv.{derivSlowOf}
 use Rattle.time_rollups.proofs.deriv.rollup_deriv_slow.Statement.{statement}

@@ -1,7 +1,6 @@
 -- `time_rollups::rollup_fns::rollup_predict_linear` meets its contract: `predict` is handed the line that math gives.
 -- Assumes nothing.
 use borrow.Author.Needs.{needs}
-use Rattle.ieee.specs.Patterns.{floats}
 use Rattle.window.proofs.Times.{back, fits-after}
 use Rattle.time_rollups.specs.RollupFns.{predictLinearOf}
 use Rattle.time_rollups.proofs.rollup_fns.rollup_predict_linear.Statement.{statement}

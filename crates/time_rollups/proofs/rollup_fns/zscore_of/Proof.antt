@@ -1,7 +1,6 @@
 -- `time_rollups::rollup_fns::zscore_of` meets its contract: the test is the definition's, and comes first.
 -- Assumes nothing.
 use borrow.Author.Needs.{needs}
-use Rattle.ieee.specs.Patterns.{floats}
 use Rattle.time_rollups.specs.RollupFns.{zscoreFrom}
 use Rattle.time_rollups.proofs.rollup_fns.zscore_of.Statement.{statement}
 use Rattle.time_rollups.proofs.rollup_fns.zscore_of.Tie as tie

@@ -4,7 +4,6 @@ use mathlib.Core.Path.{_∙_, ap}
 use borrow.Author.Needs.{needs}
 use native.Mathlib.Omega.{arith}
 use lib.ListN.{length-take}
-use Rattle.ieee.specs.Patterns.{floats}
 use Rattle.window.specs.Window.{countF}
 use Rattle.window.proofs.Window.{no-values, some-values}
 use Rattle.value_rollups.specs.RollupFns.{distinctFrom, distinctOf}
