@@ -12,7 +12,7 @@ ghost use Rattle.merge_sort.specs.Order.{Sortable, sorted};
 ghost use Rattle.math.specs.Quantile.{deviations, quantileSorted, quantileOf, medianOf, madOf};
 
 // Copies the values that are no NaN to the front of work, in order, and returns how many there are.
-pub fn keep(values: &[u64], work: &mut [f64]) -> usize
+fn keep(values: &[u64], work: &mut [f64]) -> usize
     requires { ⌜ length (now values) ≤ length (now work) ⌝ }
     ensures { λ r. ⌜ (r ≡ length (kept (floats (now (values .entry))))) ⌝ }
     ensures { λ r. ⌜ now (work .exit) ≡ kept (floats (now (values .entry))) ++ drop r (now (work .entry)) ⌝ }
@@ -93,14 +93,26 @@ fn quantile_first(phi: f64, n: usize, work: &mut [f64]) -> f64
     quantile_sorted(phi, &work[..n])
 }
 
+// Copies the values that are no NaN to the front of work, sorts them there and returns how many there are.
+pub fn prepare_for_quantile_float64(values: &[u64], work: &mut [f64]) -> usize
+    requires { ⌜ 2 * length (now values) ≤ length (now work) ⌝ }
+    ensures { λ r. ⌜ (r ≡ length (kept (floats (now (values .entry))))) ⌝ }
+    ensures { λ r. ⌜ take r (now (work .exit)) ≡ sorted Order.Partial (kept (floats (now (values .entry)))) ⌝ }
+    ensures { λ _. ⌜ drop (2 * length (now (values .entry))) (now (work .exit)) ≡ drop (2 * length (now (values .entry))) (now (work .entry)) ⌝ }
+{
+    let kept = keep(values, work);
+    sort::sort(Order::Partial, &mut work[..2 * kept]);
+    kept
+}
+
 // The quantile of the values.
 pub fn quantile(phi: f64, values: &[u64], work: &mut [f64]) -> f64
     requires { ⌜ 2 * length (now values) ≤ length (now work) ⌝ }
     ensures { λ r. ⌜ r ≡ quantileOf phi (floats (now (values .entry))) ⌝ }
     ensures { λ _. ⌜ drop (2 * length (now (values .entry))) (now (work .exit)) ≡ drop (2 * length (now (values .entry))) (now (work .entry)) ⌝ }
 {
-    let n = keep(values, work);
-    quantile_first(phi, n, work)
+    let n = prepare_for_quantile_float64(values, work);
+    quantile_sorted(phi, &work[..n])
 }
 
 // The value in the middle, or half way between the two next to it.

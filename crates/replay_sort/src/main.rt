@@ -1,22 +1,11 @@
 // Replays the list `sort`. A case's words are an order's number, the number of values, the values, and the
 // values as the Rust sorts them.
 use libc::STDIN_FILENO;
-use merge_sort::Order;
 use replay::Case;
 use replay::Tally;
 use vectors::STEP;
 ghost use Prim.Native.Nat.{_*_, _≤_};
 ghost use lib.ListN.{length};
-
-// Puts the values that are no NaN to the front of work, sorted by `partial_cmp`, and returns how many there
-// are.
-fn sort_numbers(values: &[u64], work: &mut [f64]) -> usize
-    requires { ⌜ 2 * length (now values) ≤ length (now work) ⌝ }
-{
-    let n = math::quantile::keep(values, work);
-    sort::sort(Order::Partial, &mut work[..2 * n]);
-    n
-}
 
 // Sorts the values into the front of work, by the order with a number, and returns how many there are: none
 // where no order has the number.
@@ -24,7 +13,7 @@ fn sort(op: u64, values: &[u64], work: &mut [f64]) -> usize
     requires { ⌜ 2 * length (now values) ≤ length (now work) ⌝ }
 {
     if op == 8 {
-        return sort_numbers(values, work);
+        return math::quantile::prepare_for_quantile_float64(values, work);
     }
     if op == 9 {
         sort::sort_values(values, work);

@@ -28,7 +28,7 @@ use time_rollups::rollup_fns::rollup_tlast_change;
 use time_rollups::rollup_fns::rollup_tmax;
 use time_rollups::rollup_fns::rollup_tmin;
 use time_rollups::rollup_fns::rollup_zscore_over_time;
-use value_rollups::holt_winters::rollup_holt_winters;
+use value_rollups::holt_winters::holt_winters_internal;
 use value_rollups::quantiles::rollup_quantile;
 use value_rollups::rollup_fns::rollup_absent;
 use value_rollups::rollup_fns::rollup_avg;
@@ -166,7 +166,7 @@ fn figure(
         RollupHandler::Integrate => rollup_integrate(rfa, values, timestamps),
         RollupHandler::Quantile(phi) => rollup_quantile(rfa, values, work, phi),
         RollupHandler::PredictLinear(secs) => rollup_predict_linear(rfa, values, timestamps, secs),
-        RollupHandler::HoltWinters(sf, tf) => rollup_holt_winters(rfa, values, sf, tf),
+        RollupHandler::HoltWinters(sf, tf) => holt_winters_internal(rfa, values, sf, tf),
     }
 }
 

@@ -39,7 +39,7 @@ fn smooth_from(sf: f64, tf: f64, s: f64, values: &[u64]) -> f64
 }
 
 // The predecessor for an empty window; NaN for factors out of range, and for one reading without predecessor.
-pub fn rollup_holt_winters(rfa: RollupFuncArg, values: &[u64], sf: f64, tf: f64) -> f64
+pub fn holt_winters_internal(rfa: RollupFuncArg, values: &[u64], sf: f64, tf: f64) -> f64
     ensures { λ r. ⌜ r ≡ holtWintersOf sf tf (rfa .«prev_value») (floats (now (values .entry))) ⌝ }
 {
     if values.len() == 0 {

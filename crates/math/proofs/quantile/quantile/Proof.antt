@@ -1,30 +1,35 @@
--- `math::quantile::quantile` meets its contract: the first n entries are the kept values.
+-- `math::quantile::quantile` meets its contract: the first n entries are the kept values, sorted.
 -- Assumes nothing.
+use Prim.Native.Nat.{_≤_}
+use mathlib.Core.Path.{ap, _∙_}
+use native.Mathlib.Omega.{arith}
 use borrow.Author.Needs.{needs}
-use lib.ListN.{length, length-map}
+use lib.ListN.{length, length-take}
 use Rattle.ieee.specs.Patterns.{floats}
-use Rattle.sort.specs.Values.{kept}
-use Rattle.math.proofs.Kept.{kept-ready, kept-quantile}
+use Rattle.ieee.proofs.Floats.{length-floats}
+use Rattle.sort.proofs.Kept.{length-kept}
+use Rattle.math.specs.Quantile.{quantileSorted, quantileOf}
 use Rattle.math.proofs.quantile.quantile.Statement.{statement}
 use Rattle.math.proofs.quantile.quantile.Tie as tie
 
-quantile-first-requires : tie.Need-quantile-first-requires
-unfolding floats
-quantile-first-requires c κs =
-    let at = c .before .before .before in
-    let s = at .before .before .before .before in
+-- the sorted values are within the work slice
+within : (c : tie.After-prepare-for-quantile-float64) → c .prepare-for-quantile-float64 .result ≤ length (c .prepare-for-quantile-float64 .last .1 .0)
+within c =
+    let s = c .before .before .before .before in
     let vs = s .args .values .now in
-    kept-ready (floats vs) (s .args .work .now) (at .keep .last .1 .0) (at .keep .result) (length vs) (length-map vs _) (at .keep .ensures .0) (at .keep .ensures .1) (s .pre) (at .keep .kept .1 .0)
+    omega (arith, c .prepare-for-quantile-float64 .ensures .0, c .prepare-for-quantile-float64 .kept .1 .0, s .pre, length-kept (floats vs), length-floats vs)
+
+slice-aggregate-quantile-sorted : tie.Need-slice-aggregate-quantile-sorted
+slice-aggregate-quantile-sorted c = simp length-take (omega (arith, within (c .before .before .before)))
 
 returns : tie.Need-returns
-unfolding floats
+unfolding quantileOf
 returns c =
-    let first = c .before .before .quantile-first in
-    let at = c .before .before .before .before .before .before in
-    let s = at .before .before .before .before in
-    let vs = s .args .values .now in
-    kept-quantile (floats vs) (s .args .work .now) (at .keep .last .1 .0) (at .keep .result) (length vs) (length-map vs _) (at .keep .ensures .0) (at .keep .ensures .1)
-    (s .args .phi) (first .result) (first .last .1 .1 .0) (first .ensures)
+    let at = c .before .before .before .before in
+    let s = at .before .before .before .before in (
+      c .quantile-sorted .ensures ∙ ap (quantileSorted (s .args .phi)) (at .prepare-for-quantile-float64 .ensures .1 .0),
+      at .prepare-for-quantile-float64 .ensures .1 .1,
+    )
 
 pub quantile-spec : {M : Type 1} → statement M
-quantile-spec = tie.close (tie.spec (λ c κs. search needs) quantile-first-requires (λ c. search needs) returns)
+quantile-spec = tie.close (tie.spec (λ c κs. search needs) (λ c. omega (arith, within (c .before .before))) slice-aggregate-quantile-sorted (λ c κs. search needs) (λ c. search needs) returns)

@@ -64,4 +64,4 @@ figure-spec =
     (λ c. search needs)
     (λ c. rw (c .before .before .before .before .before .handler .given .1) (c .before .before .rollup-quantile .ensures))
     (λ c. rw (c .before .before .handler2 .given .1) (c .rollup-predict-linear .ensures))
-    (λ c. rw (c .before .before .handler3 .given .1) (c .rollup-holt-winters .ensures)))
+    (λ c. rw (c .before .before .handler3 .given .1) (c .holt-winters-internal .ensures)))

@@ -1,11 +1,11 @@
--- `value_rollups::holt_winters::rollup_holt_winters` meets its contract: each test is one of the definition.
+-- `value_rollups::holt_winters::holt_winters_internal` meets its contract: each test is one of the definition.
 -- Assumes nothing.
 use borrow.Author.Needs.{needs}
 use Rattle.ieee.proofs.Floats.{rest-values}
 use Rattle.window.proofs.Window.{no-values, some-values}
 use Rattle.value_rollups.specs.HoltWinters.{holtWintersOf}
-use Rattle.value_rollups.proofs.holt_winters.rollup_holt_winters.Statement.{statement}
-use Rattle.value_rollups.proofs.holt_winters.rollup_holt_winters.Tie as tie
+use Rattle.value_rollups.proofs.holt_winters.holt_winters_internal.Statement.{statement}
+use Rattle.value_rollups.proofs.holt_winters.holt_winters_internal.Tie as tie
 
 returns : tie.Need-returns
 unfolding holtWintersOf
@@ -31,5 +31,5 @@ returns-5 c =
     rw (some-values _ (c .before .before .before .before .before .before .before .if1 .left), ← c .before .before .before .before .before .before .out-of-range .ensures, c .before .before .before .before .before .if2 .left, ← c .before .before .before .before .out-of-range2 .ensures, c .before .before .before .if3 .left, ← c .before .before .is-nan .ensures, c .before .if4 .left)
     (c .smooth-from2 .ensures)
 
-pub rollup-holt-winters-spec : {M : Type 1} → statement M
-rollup-holt-winters-spec = tie.close (tie.spec returns (λ c κs. search needs) (λ c κs. search needs) returns-2 (λ c κs. search needs) (λ c κs. search needs) returns-3 (λ c κs. search needs) (λ c κs. search needs) (λ c κs. search needs) (λ c κs. search needs) returns-4 (λ c κs. search needs) returns-5)
+pub holt-winters-internal-spec : {M : Type 1} → statement M
+holt-winters-internal-spec = tie.close (tie.spec returns (λ c κs. search needs) (λ c κs. search needs) returns-2 (λ c κs. search needs) (λ c κs. search needs) returns-3 (λ c κs. search needs) (λ c κs. search needs) (λ c κs. search needs) (λ c κs. search needs) returns-4 (λ c κs. search needs) returns-5)
