@@ -7,3 +7,4 @@ pub mod Stretches
 pub mod Numbered
 pub mod Table
 pub mod Quantile
+mod Examples

@@ -22,12 +22,12 @@ use Rattle.ieee.proofs.Exact.{count-exact, value-number}
 use Rattle.ieee.proofs.Order.{eq-rank, lt-rank}
 use Rattle.ieee.proofs.Patterns.{same-if-number}
 use Rattle.merge_sort.specs.Order.{lessOf}
-use Rattle.math.specs.Quantile.{atRank, between, medianOf, quantileOf, quantileSorted, rankOf}
+use Rattle.quantile.specs.Quantile.{atRank, between, medianOf, quantileOf, quantileSorted, rankOf}
 use Rattle.merge_sort.specs.Sort.{All}
 use Rattle.ieee.specs.Patterns.{floats}
 use Rattle.sort.specs.Values.{kept}
 use Rattle.merge_sort.specs.declared.Order.the-variants.{Partial}
-use Rattle.math.proofs.Exact.{Whole, difference-of-equals, plus-zero, product, times-one, times-zero, whole, zero-times}
+use Rattle.quantile.proofs.Exact.{Whole, difference-of-equals, plus-zero, product, times-one, times-zero, whole, zero-times}
 use Rattle.sort.proofs.Kept.{all-kept, kept-numbers}
 use Rattle.merge_sort.proofs.Keys.{Keyed, all-keyed, keyed-sorted}
 use Rattle.merge_sort.proofs.Sorted.{InOrder, sorted-in-order, sorted-permutes}

@@ -7,7 +7,7 @@ use Rattle.root.specs.Root.{sqrtOf}
 use Rattle.ieee.specs.Value.{absOf, floorOf}
 use Rattle.math.specs.Deviation.{stdvarOf}
 use Rattle.math.specs.Mode.{modeOf}
-use Rattle.math.specs.Quantile.{quantileOf}
+use Rattle.quantile.specs.Quantile.{quantileOf}
 use Rattle.merge_sort.specs.Sort.{sortBy}
 use Rattle.sort.specs.Values.{kept}
 use Rattle.times.specs.Readings.{filter}

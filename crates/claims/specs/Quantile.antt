@@ -10,7 +10,7 @@ use lib.Ieee.{Float, nan, fin, binary64, eq, isNan, lt, ofBits, ofInt}
 use lib.Ieee.Scale.{finite}
 use Rattle.ieee.specs.Value.{negative}
 use Rattle.merge_sort.specs.Order.{sorted}
-use Rattle.math.specs.Quantile.{rankOf}
+use Rattle.quantile.specs.Quantile.{rankOf}
 use Rattle.merge_sort.specs.Sort.{All}
 use Rattle.sort.specs.Values.{kept}
 use Rattle.merge_sort.specs.declared.Order.the-variants.{Partial}

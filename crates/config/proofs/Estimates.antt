@@ -20,7 +20,7 @@ use Rattle.sort.specs.Values.{kept}
 use Rattle.merge_sort.specs.Sort.{All}
 use Rattle.merge_sort.specs.Order.{sorted}
 use Rattle.merge_sort.specs.declared.Order.the-variants.{Partial}
-use Rattle.math.specs.Quantile.{between, atRank, rankOf, quantileSorted, quantileOf}
+use Rattle.quantile.specs.Quantile.{between, atRank, rankOf, quantileSorted, quantileOf}
 use Rattle.sort.proofs.Kept.{all-kept, length-kept}
 use Rattle.merge_sort.proofs.Sorting.{all-at, all-sort, all-take, length-sort}
 use Rattle.times.specs.Milli.{timeLimit, Within}

@@ -8,7 +8,7 @@ use lib.Ieee.{add, sub, mul, round, lt, ofBits, ofInt, toUnsigned, toSigned, isN
 use Rattle.ieee.specs.Value.{floorOf}
 use Rattle.sort.specs.Values.{kept}
 use Rattle.merge_sort.specs.Sort.{insertBy, sortBy}
-use Rattle.math.specs.Quantile.{between, atRank, rankOf, quantileSorted, quantileOf}
+use Rattle.quantile.specs.Quantile.{between, atRank, rankOf, quantileSorted, quantileOf}
 use Rattle.series.specs.declared.refusal.Checked.the-variants.{Accepted, Refused}
 use Rattle.series.specs.declared.refusal.Refusal.the-variants.{OverPointLimit, WindowOutside}
 use Rattle.config.specs.Estimate.{distances, distancesFrom, estimateOf}

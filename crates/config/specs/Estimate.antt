@@ -8,7 +8,7 @@ use lib.IntN.{ℤ, pos, natAbs, _-ℤ_}
 use lib.Ieee.{Float, binary64, ofBits, toBits, ofInt, toSigned}
 use lib.ListN.{length, take}
 use lib.Signed.{leZ}
-use Rattle.math.specs.Quantile.{quantileOf}
+use Rattle.quantile.specs.Quantile.{quantileOf}
 
 -- what stands for an interval that cannot be estimated: five minutes
 abbrev pub silence : ℕ

@@ -47,7 +47,7 @@ pub fn get_scrape_interval(timestamps: &[i64]) -> u64
     let mut intervals = [0u64; 20];
     let n = first_intervals(timestamps, &mut intervals);
     let mut work = [0.0f64; 40];
-    let scrape_interval = ieee::to_i64(math::quantile::quantile(0.6, &intervals[..n], &mut work));
+    let scrape_interval = ieee::to_i64(quantile::quantile(0.6, &intervals[..n], &mut work));
     if scrape_interval <= 0 {
         return MAX_SILENCE_INTERVAL;
     }

@@ -1,5 +1,3 @@
 -- The definitions that the contracts of `math`, and of the crates above, cite: a file for each subject.
-pub mod Quantile
 pub mod Deviation
 pub mod Mode
-pub mod Regression

@@ -1,7 +1,5 @@
-// The port of common/math.rs: what a rollup asks of the values of a window. Values come as patterns,
-// and what sorts is lent a work slice of at least twice the window's length.
+// From the port of common/math.rs: the variance and the mode of a window's values, which come as
+// patterns. Its quantiles and its line are the crates `quantile` and `regression`.
 
 pub mod deviation;
 pub mod mode;
-pub mod quantile;
-pub mod regression;

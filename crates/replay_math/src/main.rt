@@ -23,13 +23,13 @@ fn same(op: u64, values: &[u64], parameter: f64, stored: u64, work: &mut [f64]) 
     requires { ⌜ 2 * length (now values) ≤ length (now work) ⌝ }
 {
     match op {
-        0 => ieee::bits_of(math::quantile::quantile(parameter, values, work)) == stored,
-        1 => ieee::bits_of(math::quantile::median(values, work)) == stored,
-        2 => ieee::bits_of(math::quantile::mad(values, work)) == stored,
+        0 => ieee::bits_of(quantile::quantile(parameter, values, work)) == stored,
+        1 => ieee::bits_of(quantile::median(values, work)) == stored,
+        2 => ieee::bits_of(quantile::mad(values, work)) == stored,
         3 => ieee::bits_of(math::deviation::stdvar(values)) == stored,
         4 => ieee::bits_of(math::deviation::stddev(values)) == stored,
         5 => ieee::bits_of(math::mode::mode_no_nans(parameter, values, work)) == stored,
-        7 => replay::flag(math::regression::are_const_values(values)) == stored,
+        7 => replay::flag(regression::are_const_values(values)) == stored,
         _ => false,
     }
 }

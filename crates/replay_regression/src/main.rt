@@ -23,7 +23,7 @@ fn same(values: &[u64], timestamps: &[i64], intercept: i64, v: u64, k: u64) -> b
     if 0x8_0000_0000_0000 < intercept {
         return false;
     }
-    let line = math::regression::linear_regression(values, timestamps, intercept);
+    let line = regression::linear_regression(values, timestamps, intercept);
     if ieee::bits_of(line.v) != v {
         return false;
     }

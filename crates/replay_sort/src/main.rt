@@ -13,7 +13,7 @@ fn sort(op: u64, values: &[u64], work: &mut [f64]) -> usize
     requires { ⌜ 2 * length (now values) ≤ length (now work) ⌝ }
 {
     if op == 8 {
-        return math::quantile::prepare_for_quantile_float64(values, work);
+        return quantile::prepare_for_quantile_float64(values, work);
     }
     if op == 9 {
         sort::sort_values(values, work);

@@ -6,7 +6,7 @@ use Prim.Native.Nat.{ℕ, _*_, _≤_}
 use lib.ListN.{length}
 use lib.IntN.{ℤ}
 use lib.Ieee.{Float, binary64, toBits}
-use Rattle.math.specs.Quantile.{madOf, medianOf, quantileOf}
+use Rattle.quantile.specs.Quantile.{madOf, medianOf, quantileOf}
 use Rattle.math.specs.Deviation.{stddevOf, stdvarOf}
 use Rattle.math.specs.Mode.{modeOf}
 use Rattle.window.specs.declared.types.RollupFuncArg.{RollupFuncArg}

@@ -8,7 +8,7 @@ use lib.ListN.{length, getD}
 use lib.IntN.{ℤ, pos, _-ℤ_}
 use lib.Signed.{ltZ}
 use lib.Ieee.{Float, nan, binary64, sub, div, isNan}
-use Rattle.math.specs.Regression.{regressionOf}
+use Rattle.regression.specs.Regression.{regressionOf}
 use Rattle.window.specs.declared.types.RollupFuncArg.{RollupFuncArg}
 use Rattle.ieee.specs.Value.{secondsOf}
 use Rattle.window.specs.Window.{isEmpty, firstOr, lastOr, firstOf, lastOf, upToLast, zeroF}

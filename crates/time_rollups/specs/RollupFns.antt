@@ -9,8 +9,8 @@ use lib.ListN.{length, take, getD}
 use lib.IntN.{ℤ, pos, _-ℤ_}
 use lib.Ieee.{Float, nan, binary64, add, sub, mul, div, lt, le, eq, ne, isNan}
 use Rattle.math.specs.Deviation.{stddevOf}
-use Rattle.math.specs.Regression.{regressionOf}
-use Rattle.math.specs.declared.regression.Line.{Line}
+use Rattle.regression.specs.Regression.{regressionOf}
+use Rattle.regression.specs.declared.Line.{Line}
 use Rattle.window.specs.declared.types.RollupFuncArg.{RollupFuncArg}
 use Rattle.ieee.specs.Value.{secondsOf}
 use Rattle.window.specs.Window.{readings, isEmpty, firstOr, lastOr, firstOf, lastOf, upToLast, zeroF, countF}

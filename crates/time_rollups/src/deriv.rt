@@ -22,7 +22,7 @@ pub fn rollup_deriv_slow(rfa: RollupFuncArg, values: &[u64], timestamps: &[i64])
     requires lengths { ⌜ length (now timestamps) ≡ length (now values) ⌝ }
     ensures { λ r. ⌜ r ≡ derivSlowOf rfa (floats (now (values .entry))) (now (timestamps .entry)) ⌝ }
 {
-    let line = math::regression::linear_regression(values, timestamps, rfa.curr_timestamp);
+    let line = regression::linear_regression(values, timestamps, rfa.curr_timestamp);
     line.k
 }
 

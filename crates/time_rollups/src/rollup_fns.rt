@@ -1,7 +1,7 @@
 // The rollups of rollup_fns.rs that read a window's times. Each answers NaN for a window that does not settle it.
 
 use ieee::nan;
-use math::regression::Line;
+use regression::Line;
 use value_rollups::rollup_fns::rollup_avg;
 use window::types::RollupFuncArg;
 use window::types::first;
@@ -223,7 +223,7 @@ pub fn rollup_predict_linear(
     ensures { λ r. ⌜ r ≡ predictLinearOf rfa (floats (now (values .entry))) (now (timestamps .entry)) secs ⌝ }
 {
     predict(
-        math::regression::linear_regression(values, timestamps, rfa.curr_timestamp),
+        regression::linear_regression(values, timestamps, rfa.curr_timestamp),
         secs,
     )
 }

@@ -11,7 +11,7 @@ ghost use Prim.Native.Nat.{_*_, _≤_, _<_};
 ghost use lib.ListN.{length};
 ghost use Rattle.math.specs.Deviation.{stddevOf, stdvarOf};
 ghost use Rattle.math.specs.Mode.{modeOf};
-ghost use Rattle.math.specs.Quantile.{madOf, medianOf};
+ghost use Rattle.quantile.specs.Quantile.{madOf, medianOf};
 ghost use Rattle.ieee.specs.Patterns.{floats};
 ghost use Rattle.window.specs.Window.{beyond, firstOf, further, lastOf};
 ghost use Rattle.value_rollups.specs.RollupFns.{absentOf, avgOf, countOf, distinctFrom, distinctOf, maxOf, minOf, presentOf, rangeOf, rateOverSumOf, sum2Of, sumOf, totalOf};
@@ -95,14 +95,14 @@ pub fn rollup_mad(rfa: RollupFuncArg, values: &[u64], work: &mut [f64]) -> f64
     requires { ⌜ 2 * length (now values) ≤ length (now work) ⌝ }
     ensures { λ r. ⌜ r ≡ madOf (floats (now (values .entry))) ⌝ }
 {
-    math::quantile::mad(values, work)
+    quantile::mad(values, work)
 }
 
 pub fn rollup_median(rfa: RollupFuncArg, values: &[u64], work: &mut [f64]) -> f64
     requires { ⌜ 2 * length (now values) ≤ length (now work) ⌝ }
     ensures { λ r. ⌜ r ≡ medianOf (floats (now (values .entry))) ⌝ }
 {
-    math::quantile::median(values, work)
+    quantile::median(values, work)
 }
 
 pub fn rollup_sum(rfa: RollupFuncArg, values: &[u64]) -> f64

@@ -19,7 +19,7 @@ use mir.Syntax.{w64}
 use mir.Val.{Fits, SFits}
 use mir.Facts.{toZ-ofZ}
 use Rattle.ieee.specs.Patterns.{floats}
-use Rattle.math.specs.Quantile.{quantileOf}
+use Rattle.quantile.specs.Quantile.{quantileOf}
 use Rattle.config.specs.Estimate.{distances, firstIntervals, intervalBits, estimateOf}
 use Rattle.config.proofs.estimate.get_scrape_interval.Statement.{statement}
 use Rattle.config.proofs.estimate.get_scrape_interval.Tie as tie

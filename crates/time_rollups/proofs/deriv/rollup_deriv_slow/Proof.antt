@@ -1,7 +1,7 @@
--- `time_rollups::deriv::rollup_deriv_slow` meets its contract: it is the slope of the line that math gives.
+-- `time_rollups::deriv::rollup_deriv_slow` meets its contract: it is the slope of the line that `regression` gives.
 -- Assumes nothing.
 use mathlib.Core.Path.{ap}
-use Rattle.math.specs.declared.regression.Line.{Line}
+use Rattle.regression.specs.declared.Line.{Line}
 use Rattle.window.proofs.Times.{back, fits-after}
 use Rattle.time_rollups.specs.Deriv.{derivSlowOf}
 use Rattle.time_rollups.proofs.deriv.rollup_deriv_slow.Statement.{statement}

@@ -1,4 +1,0 @@
-pub mod Kept
-pub mod Index
-pub mod Exact
-mod Examples
