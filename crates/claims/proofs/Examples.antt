@@ -6,7 +6,7 @@ use lib.IntN.{pos}
 use lib.Ieee.{Float, nan, inf, binary64, isNan, ofBits}
 use Rattle.ieee.specs.Value.{absOf, totalLt}
 use Rattle.sort.specs.Values.{kept}
-use Rattle.merge_sort.specs.Sort.{sortBy}
+use Rattle.order.specs.Sort.{sortBy}
 use Rattle.quantile.specs.Quantile.{quantileOf, medianOf, madOf}
 use Rattle.math.specs.Deviation.{stdvarOf}
 use Rattle.math.specs.Mode.{modeOf}

@@ -21,17 +21,17 @@ use Rattle.ieee.specs.Value.{floorOf, negative}
 use Rattle.ieee.proofs.Exact.{count-exact, value-number}
 use Rattle.ieee.proofs.Order.{eq-rank, lt-rank}
 use Rattle.ieee.proofs.Patterns.{same-if-number}
-use Rattle.merge_sort.specs.Order.{lessOf}
+use Rattle.order.specs.Order.{lessOf}
 use Rattle.quantile.specs.Quantile.{atRank, between, medianOf, quantileOf, quantileSorted, rankOf}
-use Rattle.merge_sort.specs.Sort.{All}
+use Rattle.order.specs.Sort.{All}
 use Rattle.ieee.specs.Patterns.{floats}
 use Rattle.sort.specs.Values.{kept}
-use Rattle.merge_sort.specs.declared.Order.the-variants.{Partial}
+use Rattle.order.specs.declared.Order.the-variants.{Partial}
 use Rattle.quantile.proofs.Exact.{Whole, difference-of-equals, plus-zero, product, times-one, times-zero, whole, zero-times}
 use Rattle.sort.proofs.Kept.{all-kept, kept-numbers}
-use Rattle.merge_sort.proofs.Keys.{Keyed, all-keyed, keyed-sorted}
-use Rattle.merge_sort.proofs.Sorted.{InOrder, sorted-in-order, sorted-permutes}
-use Rattle.merge_sort.proofs.Sorting.{all-at, all-sort}
+use Rattle.order.proofs.Keys.{Keyed, all-keyed, keyed-sorted}
+use Rattle.order.proofs.Sorted.{InOrder, sorted-in-order, sorted-permutes}
+use Rattle.order.proofs.Sorting.{all-at, all-sort}
 use Rattle.claims.specs.Quantile.{Finite, Greatest, Least, Middle, WholeRank, before, nth, one, ordered, size, zeroOf}
 
 -- ---- two values at weight 0

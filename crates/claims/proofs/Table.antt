@@ -8,7 +8,7 @@ use Rattle.ieee.specs.Value.{absOf, floorOf}
 use Rattle.math.specs.Deviation.{stdvarOf}
 use Rattle.math.specs.Mode.{modeOf}
 use Rattle.quantile.specs.Quantile.{quantileOf}
-use Rattle.merge_sort.specs.Sort.{sortBy}
+use Rattle.order.specs.Sort.{sortBy}
 use Rattle.sort.specs.Values.{kept}
 use Rattle.times.specs.Readings.{filter}
 use Rattle.prepare.specs.Steps.{counterAfter, deltas, deltasFrom, derivs, derivsFrom, grown, intervalsFrom, lifted, preparedOf, resetsFrom, sloped}

@@ -9,11 +9,11 @@ use lib.Dec.{T}
 use lib.Ieee.{Float, nan, fin, binary64, eq, isNan, lt, ofBits, ofInt}
 use lib.Ieee.Scale.{finite}
 use Rattle.ieee.specs.Value.{negative}
-use Rattle.merge_sort.specs.Order.{sorted}
+use Rattle.order.specs.Order.{sorted}
 use Rattle.quantile.specs.Quantile.{rankOf}
-use Rattle.merge_sort.specs.Sort.{All}
+use Rattle.order.specs.Sort.{All}
 use Rattle.sort.specs.Values.{kept}
-use Rattle.merge_sort.specs.declared.Order.the-variants.{Partial}
+use Rattle.order.specs.declared.Order.the-variants.{Partial}
 
 -- 0.0 and −0.0
 abbrev pub zeroOf : Bool → Float

@@ -17,12 +17,12 @@ use lib.Ieee.Positive.{num, den, den-pos, through}
 use lib.ListN.{length, getD, take, length-take, length-map}
 use Rattle.ieee.specs.Value.{floorOf}
 use Rattle.sort.specs.Values.{kept}
-use Rattle.merge_sort.specs.Sort.{All}
-use Rattle.merge_sort.specs.Order.{sorted}
-use Rattle.merge_sort.specs.declared.Order.the-variants.{Partial}
+use Rattle.order.specs.Sort.{All}
+use Rattle.order.specs.Order.{sorted}
+use Rattle.order.specs.declared.Order.the-variants.{Partial}
 use Rattle.quantile.specs.Quantile.{between, atRank, rankOf, quantileSorted, quantileOf}
 use Rattle.sort.proofs.Kept.{all-kept, length-kept}
-use Rattle.merge_sort.proofs.Sorting.{all-at, all-sort, all-take, length-sort}
+use Rattle.order.proofs.Sorting.{all-at, all-sort, all-take, length-sort}
 use Rattle.times.specs.Milli.{timeLimit, Within}
 use Rattle.times.specs.Later.{NotFalling}
 use Rattle.times.proofs.Order.{offset-of}

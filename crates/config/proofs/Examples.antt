@@ -7,7 +7,7 @@ use lib.IntN.{pos}
 use lib.Ieee.{add, sub, mul, round, lt, ofBits, ofInt, toUnsigned, toSigned, isNan}
 use Rattle.ieee.specs.Value.{floorOf}
 use Rattle.sort.specs.Values.{kept}
-use Rattle.merge_sort.specs.Sort.{insertBy, sortBy}
+use Rattle.order.specs.Sort.{insertBy, sortBy}
 use Rattle.quantile.specs.Quantile.{between, atRank, rankOf, quantileSorted, quantileOf}
 use Rattle.series.specs.declared.refusal.Checked.the-variants.{Accepted, Refused}
 use Rattle.series.specs.declared.refusal.Refusal.the-variants.{OverPointLimit, WindowOutside}

@@ -5,8 +5,8 @@ use mathlib.Core.List.{List, foldl}
 use Prim.Native.Nat.{ℕ, _+_}
 use lib.Dec.{ltb}
 use lib.Ieee.{Float, eq, isNan}
-use Rattle.merge_sort.specs.Order.{sorted}
-use Rattle.merge_sort.specs.declared.Order.the-variants.{Total}
+use Rattle.order.specs.Order.{sorted}
+use Rattle.order.specs.declared.Order.the-variants.{Total}
 
 -- the value of the run at hand and its length; the longest run before it and its value
 pub record Runs : Type 0 where

@@ -8,8 +8,8 @@ use lib.ListN.{length, getD}
 use lib.Ieee.{Float, nan, inf, binary64, add, sub, mul, lt, isNan, ofBits, ofInt, toUnsigned}
 use Rattle.ieee.specs.Value.{absOf, floorOf}
 use Rattle.sort.specs.Values.{kept}
-use Rattle.merge_sort.specs.Order.{sorted}
-use Rattle.merge_sort.specs.declared.Order.the-variants.{Partial}
+use Rattle.order.specs.Order.{sorted}
+use Rattle.order.specs.declared.Order.the-variants.{Partial}
 
 -- lower × (1 − w) + upper × w
 unfoldable pub between : Float → Float → Float → Float

@@ -1,14 +1,14 @@
 // Quantiles of a window: the median and the median absolute deviation are quantiles too. NaN is left
 // out, the rest is sorted by `partial_cmp`, and the two values next to the rank are weighted.
 
-use merge_sort::Order;
+use order::Order;
 ghost use mathlib.Core.Path.{_≡_};
 ghost use mathlib.Core.List.{_++_};
 ghost use Prim.Native.Nat.{_*_, _≤_, min};
 ghost use lib.ListN.{length, take, drop};
 ghost use Rattle.ieee.specs.Patterns.{floats};
 ghost use Rattle.sort.specs.Values.{kept};
-ghost use Rattle.merge_sort.specs.Order.{Sortable, sorted};
+ghost use Rattle.order.specs.Order.{Sortable, sorted};
 ghost use Rattle.quantile.specs.Quantile.{deviations, quantileSorted, quantileOf, medianOf, madOf};
 
 // Copies the values that are no NaN to the front of work, in order, and returns how many there are.

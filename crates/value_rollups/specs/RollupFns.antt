@@ -5,8 +5,8 @@ use mathlib.Core.Bool.{true, false, cond}
 use Prim.Native.Nat.{ℕ, _+_}
 use lib.ListN.{length, drop}
 use lib.Ieee.{Float, nan, binary64, add, sub, mul, div, lt, eq}
-use Rattle.merge_sort.specs.Order.{sorted}
-use Rattle.merge_sort.specs.declared.Order.the-variants.{Total}
+use Rattle.order.specs.Order.{sorted}
+use Rattle.order.specs.declared.Order.the-variants.{Total}
 use Rattle.window.specs.declared.types.RollupFuncArg.{RollupFuncArg}
 use Rattle.ieee.specs.Value.{secondsOf}
 use Rattle.window.specs.Window.{isEmpty, firstOf, further, zeroF, oneF, countF}

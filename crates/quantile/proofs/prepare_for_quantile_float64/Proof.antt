@@ -9,8 +9,8 @@ use lib.Ieee.{Float}
 use lib.ListN.{length, take, length-take}
 use Rattle.ieee.specs.Patterns.{floats}
 use Rattle.ieee.proofs.Floats.{length-floats}
-use Rattle.merge_sort.specs.Order.{Sortable, sorted}
-use Rattle.merge_sort.specs.declared.Order.the-variants.{Partial}
+use Rattle.order.specs.Order.{Sortable, sorted}
+use Rattle.order.specs.declared.Order.the-variants.{Partial}
 use Rattle.sort.proofs.Halves.{first-half, part-first, part-behind}
 use Rattle.quantile.proofs.Kept.{kept-ready, kept-first, kept-behind}
 use Rattle.quantile.proofs.prepare_for_quantile_float64.Statement.{statement}

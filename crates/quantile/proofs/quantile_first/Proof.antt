@@ -6,9 +6,9 @@ use native.Mathlib.Omega.{arith}
 use borrow.Author.Needs.{needs}
 use lib.ListN.{length-take, length-append}
 use lib.Ieee.{Float}
-use Rattle.merge_sort.specs.Order.{sorted}
+use Rattle.order.specs.Order.{sorted}
 use Rattle.quantile.specs.Quantile.{quantileSorted}
-use Rattle.merge_sort.specs.declared.Order.the-variants.{Partial}
+use Rattle.order.specs.declared.Order.the-variants.{Partial}
 use Rattle.sort.proofs.Halves.{first-half, part-long, part-first, part-behind}
 use Rattle.quantile.proofs.quantile_first.Statement.{statement}
 use Rattle.quantile.proofs.quantile_first.Tie as tie

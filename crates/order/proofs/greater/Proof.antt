@@ -1,7 +1,7 @@
--- `merge_sort::greater` meets its contract: it makes the test of the definition.
+-- `order::greater` meets its contract: it makes the test of the definition.
 -- Assumes nothing.
-use Rattle.merge_sort.proofs.greater.Statement.{statement}
-use Rattle.merge_sort.proofs.greater.Tie as tie
+use Rattle.order.proofs.greater.Statement.{statement}
+use Rattle.order.proofs.greater.Tie as tie
 
 returns : tie.Need-returns
 returns c = rw (c .if1 .taken)

@@ -1,7 +1,7 @@
--- `merge_sort::lesser` meets its contract: it makes the test of the definition.
+-- `order::lesser` meets its contract: it makes the test of the definition.
 -- Assumes nothing.
-use Rattle.merge_sort.proofs.lesser.Statement.{statement}
-use Rattle.merge_sort.proofs.lesser.Tie as tie
+use Rattle.order.proofs.lesser.Statement.{statement}
+use Rattle.order.proofs.lesser.Tie as tie
 
 returns : tie.Need-returns
 returns c = rw (c .if1 .taken)
