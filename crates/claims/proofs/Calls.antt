@@ -10,11 +10,11 @@ use Rattle.config.specs.Rows.{settingsChecked, settledSettings}
 use Rattle.ieee.specs.Patterns.{floats, patterns}
 use Rattle.series.specs.Refusals.{firstRefusal}
 use Rattle.series.specs.Rows.{seriesChecked}
-use Rattle.prepare.specs.Steps.{preparedOf}
+use Rattle.steps.specs.Steps.{preparedOf}
 use Rattle.series.specs.declared.refusal.Checked.{Checked}
 use Rattle.series.specs.declared.refusal.Checked.the-variants.{Accepted}
 use Rattle.series.proofs.Accepted.{AllAccept, accepted-series, all-accept}
-use Rattle.prepare.proofs.Prepared.{prepared-length}
+use Rattle.steps.proofs.Prepared.{prepared-length}
 use Rattle.times.specs.Grid.{gridSize}
 use Rattle.times.proofs.GridLaws.{grid-length}
 use Rattle.times.proofs.Readings.{zip-length}

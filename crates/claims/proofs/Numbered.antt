@@ -12,7 +12,7 @@ use Rattle.harzoulin.specs.declared.runs.Choice.{Choice}
 use Rattle.harzoulin.specs.declared.runs.Choice.the-variants.{Named, Unnamed}
 use Rattle.rollup.specs.declared.handler.RollupHandler.{RollupHandler}
 use Rattle.series.specs.declared.refusal.Checked.the-variants.{Accepted}
-use Rattle.prepare.specs.declared.steps.PreFunction.{PreFunction}
+use Rattle.steps.specs.declared.PreFunction.{PreFunction}
 use Rattle.claims.specs.Calls.{Call, Settings, run, settled, accepted, answers, checked, counted, plan, returned, samples}
 use Rattle.claims.specs.Cut.{Cut, joined, total}
 use Rattle.claims.specs.Numbered.{NumberedCall, NumberedRejoined, choice, gridOf, made, madeBy, replied, repliedAccepted, repliedAnswers, repliedCount}

@@ -11,13 +11,13 @@ use lib.Ieee.{Float, nan, binary64, fits, isNan, ofBits, top}
 use lib.Ieee.Bits.{ofBits-fits, toBits-lt}
 use lib.Ieee.Fits.{add-fits, div-fits, inf-fits, sub-fits}
 use Rattle.ieee.specs.Patterns.{floats, patterns}
-use Rattle.prepare.specs.declared.steps.Counter.{Counter}
-use Rattle.prepare.specs.Steps.{counterAfter, deltas, deltasFrom, derivs, derivsFrom, intervalsFrom, preparedOf, resetsFrom, secondTwice, sloped, wholeSeconds}
-use Rattle.prepare.specs.declared.steps.PreFunction.{PreFunction}
-use Rattle.prepare.specs.declared.steps.PreFunction.the-variants.{None, Resets, Delta, Deriv, Intervals}
-use Rattle.prepare.specs.declared.steps.Slope.{Slope}
+use Rattle.steps.specs.declared.Counter.{Counter}
+use Rattle.steps.specs.Steps.{counterAfter, deltas, deltasFrom, derivs, derivsFrom, intervalsFrom, preparedOf, resetsFrom, secondTwice, sloped, wholeSeconds}
+use Rattle.steps.specs.declared.PreFunction.{PreFunction}
+use Rattle.steps.specs.declared.PreFunction.the-variants.{None, Resets, Delta, Deriv, Intervals}
+use Rattle.steps.specs.declared.Slope.{Slope}
 use Rattle.series.proofs.All.{All}
-use Rattle.prepare.proofs.Resets.{lifted-fits}
+use Rattle.steps.proofs.Resets.{lifted-fits}
 use Rattle.ieee.proofs.Tests.{by-test}
 use Rattle.run.specs.Record.{Reading, readings}
 use Rattle.claims.specs.Agree.{NoNan, Prepared}

@@ -11,7 +11,7 @@ use Rattle.quantile.specs.Quantile.{quantileOf}
 use Rattle.order.specs.Sort.{sortBy}
 use Rattle.sort.specs.Values.{kept}
 use Rattle.times.specs.Readings.{filter}
-use Rattle.prepare.specs.Steps.{counterAfter, deltas, deltasFrom, derivs, derivsFrom, grown, intervalsFrom, lifted, preparedOf, resetsFrom, sloped}
+use Rattle.steps.specs.Steps.{counterAfter, deltas, deltasFrom, derivs, derivsFrom, grown, intervalsFrom, lifted, preparedOf, resetsFrom, sloped}
 use Rattle.time_rollups.specs.Candlestick.{candlestick, closeOf, firstCandle}
 use Rattle.rollup.specs.Eval.{evalOf}
 use Rattle.change_rollups.specs.Delta.{deltaFrom, deltaOf, firstStep, startsLow}

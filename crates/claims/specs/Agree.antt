@@ -9,9 +9,9 @@ use lib.IntN.{ℤ}
 use lib.Ieee.{binary64, isNan, ofBits, toBits}
 use Rattle.ieee.specs.Patterns.{floats, patterns}
 use Rattle.series.specs.Rows.{seriesChecked}
-use Rattle.prepare.specs.Steps.{preparedOf}
+use Rattle.steps.specs.Steps.{preparedOf}
 use Rattle.series.specs.declared.refusal.Checked.the-variants.{Accepted}
-use Rattle.prepare.specs.declared.steps.PreFunction.{PreFunction}
+use Rattle.steps.specs.declared.PreFunction.{PreFunction}
 use Rattle.run.specs.Record.{Reading, Record, readings, window, earlier, later, next, bitsOf, reached}
 
 -- a prepared series: an accepted series' times with the values the chosen step gives them

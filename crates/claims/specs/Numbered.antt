@@ -10,7 +10,7 @@ use lib.Ieee.{Float}
 use lib.ListN.{length, take}
 use Rattle.times.specs.Grid.{grid}
 use Rattle.series.specs.Answers.{Outcome}
-use Rattle.prepare.specs.Choice.{stepOf}
+use Rattle.steps.specs.Choice.{stepOf}
 use Rattle.rollup.specs.Choice.{rollupOf}
 use Rattle.run.specs.Run.{Lent}
 use Rattle.harzoulin.specs.Runs.{choiceOf, numberedRun, numberedSettledRun}

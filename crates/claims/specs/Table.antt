@@ -9,9 +9,9 @@ use Rattle.config.specs.Reach.{reachOf}
 use Rattle.rollup.specs.declared.handler.RollupHandler.{RollupHandler}
 use Rattle.rollup.specs.declared.handler.RollupHandler.the-variants.{ChangesPrometheus, Close, Delta, HoltWinters, Lag, Max, Min, ModeOverTime, Quantile, Stddev}
 use Rattle.ieee.specs.Patterns.{patterns}
-use Rattle.prepare.specs.Steps.{preparedOf}
-use Rattle.prepare.specs.declared.steps.PreFunction.{PreFunction}
-use Rattle.prepare.specs.declared.steps.PreFunction.the-variants.{Resets, Delta as Deltas, Deriv, Intervals}
+use Rattle.steps.specs.Steps.{preparedOf}
+use Rattle.steps.specs.declared.PreFunction.{PreFunction}
+use Rattle.steps.specs.declared.PreFunction.the-variants.{Resets, Delta as Deltas, Deriv, Intervals}
 use Rattle.run.specs.Figures.{answer, countOf}
 use Rattle.run.specs.Record.{Reading, reading, recordAt, window}
 

@@ -6,8 +6,8 @@ use lib.IntN.{ℤ}
 use Rattle.series.specs.Answers.{Outcome}
 use Rattle.prepare.specs.Prepare.{prepareOf}
 use Rattle.harzoulin.specs.Exported.{unnamed}
-use Rattle.prepare.specs.declared.choice.Step.{Step}
-use Rattle.prepare.specs.declared.choice.Step.the-variants.{Known, Unknown}
+use Rattle.steps.specs.declared.choice.Step.{Step}
+use Rattle.steps.specs.declared.choice.Step.the-variants.{Known, Unknown}
 
 abbrev pub numberedPrepare : Step → List ℤ → List ℕ → List ℕ → Outcome (Unit {0}) (List ℕ)
 numberedPrepare (Known pre) ts vs old = prepareOf pre ts vs old

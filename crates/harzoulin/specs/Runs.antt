@@ -8,8 +8,8 @@ use Rattle.series.specs.Answers.{Outcome}
 use Rattle.run.specs.Run.{Lent, runOf, settledRunOf}
 use Rattle.config.specs.declared.settings.SettledConfig.{SettledConfig}
 use Rattle.harzoulin.specs.Exported.{unnamed}
-use Rattle.prepare.specs.declared.choice.Step.{Step}
-use Rattle.prepare.specs.declared.choice.Step.the-variants.{Known, Unknown}
+use Rattle.steps.specs.declared.choice.Step.{Step}
+use Rattle.steps.specs.declared.choice.Step.the-variants.{Known, Unknown}
 use Rattle.rollup.specs.declared.choice.Chosen.{Chosen}
 use Rattle.rollup.specs.declared.choice.Chosen.the-variants.{Rollup, None}
 use Rattle.harzoulin.specs.declared.runs.Choice.{Choice}

@@ -1,11 +1,11 @@
 // `harzoulin_prepare`: `prepare::prepare` with its step by number.
 
 use crate::refuse;
-use prepare::Step;
 use series::Checked;
 use series::Refusal;
+use steps::Step;
 ghost use mathlib.Core.Path.{_≡_};
-ghost use Rattle.prepare.specs.Choice.{stepOf};
+ghost use Rattle.steps.specs.Choice.{stepOf};
 ghost use Rattle.harzoulin.specs.Exported.{crossed, exported};
 ghost use Rattle.harzoulin.specs.Prepare.{numberedPrepare};
 
@@ -19,7 +19,7 @@ pub extern "C" fn harzoulin_prepare(
 ) -> u64
     ensures { λ r. ⌜ exported r (now (index .exit)) tt (now (prepared .exit)) ≡ crossed (numberedPrepare (stepOf pre) (now (timestamps .entry)) (now (values .entry)) (now (prepared .entry))) tt ⌝ }
 {
-    let step = prepare::step_of(pre);
+    let step = steps::step_of(pre);
     let Step::Known(known) = step else {
         return refuse(Refusal::UnknownNumber, index);
     };

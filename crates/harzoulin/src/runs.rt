@@ -4,15 +4,15 @@
 use crate::refuse;
 use config::settings::RollupConfig;
 use config::settings::SettledConfig;
-use prepare::PreFunction;
-use prepare::Step;
 use rollup::choice::Chosen;
 use rollup::handler::RollupHandler;
 use run::Figures;
 use series::Refusal;
+use steps::PreFunction;
+use steps::Step;
 ghost use mathlib.Core.Option.{Option·getD};
 ghost use mathlib.Core.Path.{_≡_};
-ghost use Rattle.prepare.specs.Choice.{stepOf};
+ghost use Rattle.steps.specs.Choice.{stepOf};
 ghost use Rattle.rollup.specs.Choice.{rollupOf};
 ghost use Rattle.run.specs.Run.{figuresReply, lent};
 ghost use Rattle.harzoulin.specs.Exported.{crossed, exported};
@@ -31,7 +31,7 @@ pub enum Choice {
 fn choose(pre: u32, rollup: u32, first: f64, second: f64) -> Choice
     ensures { λ r. ⌜ r ≡ choiceOf (stepOf pre) (rollupOf rollup first second) ⌝ }
 {
-    let step = prepare::step_of(pre);
+    let step = steps::step_of(pre);
     let Step::Known(known) = step else {
         return Choice::Unnamed;
     };

@@ -1,4 +1,1 @@
-pub mod Written
 pub mod Patterns
-pub mod Resets
-pub mod Prepared

@@ -1,3 +1,1 @@
-pub mod Steps
 pub mod Prepare
-pub mod Choice

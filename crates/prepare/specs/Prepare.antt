@@ -8,9 +8,9 @@ use Rattle.series.specs.Answers.{Outcome, outcomeOf}
 use Rattle.ieee.specs.Patterns.{floats, patterns}
 use Rattle.series.specs.Refusals.{firstRefusal}
 use Rattle.series.specs.Rows.{seriesChecked, row13}
-use Rattle.prepare.specs.Steps.{preparedOf}
+use Rattle.steps.specs.Steps.{preparedOf}
 use Rattle.series.specs.declared.refusal.Checked.{Checked}
-use Rattle.prepare.specs.declared.steps.PreFunction.{PreFunction}
+use Rattle.steps.specs.declared.PreFunction.{PreFunction}
 
 -- rows 1 to 5 and 13, for a prepared slice of room entries
 unfoldable pub prepareChecked : List ℤ → List ℕ → ℕ → Checked

@@ -1,21 +1,16 @@
-// The steps that prepare the values of a series.
+// The values of a checked series after a preparing step.
 
-mod choice;
-mod steps;
-
-pub use choice::Step;
-pub use choice::step_of;
 use series::Checked;
 use series::Refusal;
 use series::check_series;
-pub use steps::PreFunction;
+use steps::PreFunction;
 ghost use mathlib.Core.Path.{_≡_};
 ghost use lib.ListN.{length};
 ghost use Rattle.ieee.specs.Patterns.{floats, patterns};
 ghost use Rattle.series.specs.Answers.{checkedReply, outcome};
 ghost use Rattle.series.specs.Rows.{seriesChecked};
 ghost use Rattle.prepare.specs.Prepare.{prepareOf};
-ghost use Rattle.prepare.specs.Steps.{preparedOf};
+ghost use Rattle.steps.specs.Steps.{preparedOf};
 
 // The values as they are.
 fn copy(values: &[u64], prepared: &mut [u64])

@@ -1,11 +1,11 @@
 // Replays the list `prepare`. A case's words are the preparing step, the number of readings, their times,
 // their values, and the values as the Rust prepared them.
 use libc::STDIN_FILENO;
-use prepare::PreFunction;
-use prepare::Step;
 use replay::Case;
 use replay::Tally;
 use series::Checked;
+use steps::PreFunction;
+use steps::Step;
 use vectors::STEP;
 ghost use Prim.Native.Nat.{_≤_};
 ghost use lib.ListN.{length};
@@ -34,7 +34,7 @@ fn case(text: &[u8]) -> Case {
     if number > 4 {
         return replay::unread();
     }
-    let step = prepare::step_of(number as u32);
+    let step = steps::step_of(number as u32);
     let Step::Known(pre) = step else {
         return replay::unread();
     };

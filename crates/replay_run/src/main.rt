@@ -6,13 +6,13 @@
 use config::settings::RollupConfig;
 use config::settings::SettledConfig;
 use libc::STDIN_FILENO;
-use prepare::PreFunction;
-use prepare::Step;
 use replay::Case;
 use replay::Tally;
 use rollup::choice::Chosen;
 use rollup::handler::RollupHandler;
 use run::Figures;
+use steps::PreFunction;
+use steps::Step;
 use vectors::STEP;
 ghost use Prim.Native.Nat.{_≤_, _<_};
 ghost use lib.ListN.{length};
@@ -216,7 +216,7 @@ fn replayed(text: &[u8], at: usize, n: usize, g: usize) -> bool
     if pre > 4 {
         return false;
     }
-    let step = prepare::step_of(pre as u32);
+    let step = steps::step_of(pre as u32);
     let Step::Known(pre) = step else {
         return false;
     };

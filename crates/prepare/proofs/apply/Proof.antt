@@ -2,7 +2,7 @@
 -- Assumes nothing.
 use mathlib.Core.Path.{sym, _∙_}
 use borrow.Author.Needs.{needs}
-use Rattle.prepare.specs.Steps.{preparedOf}
+use Rattle.steps.specs.Steps.{preparedOf}
 use Rattle.series.proofs.Accepted.{accepted-series}
 use Rattle.prepare.proofs.Patterns.{patterns-floats}
 use Rattle.prepare.proofs.apply.Statement.{statement}
