@@ -6,7 +6,7 @@ use Prim.Native.Nat.{ℕ, _<_}
 use native.Mathlib.Omega.{arith}
 use lib.ListN.{length, length-map}
 use lib.Ieee.{binary64, ofBits, toBits}
-use Rattle.config.specs.Rows.{settingsChecked, settledSettings}
+use Rattle.settings.specs.Rows.{settingsChecked, settledSettings}
 use Rattle.ieee.specs.Patterns.{floats, patterns}
 use Rattle.series.specs.Refusals.{firstRefusal}
 use Rattle.series.specs.Rows.{seriesChecked}

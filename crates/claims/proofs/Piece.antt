@@ -12,10 +12,10 @@ use lib.Dec.{ltb}
 use lib.IntN.{ℤ, pos, negsuc, negℤ, natAbs}
 use lib.ListN.{length, take, drop, getD, length-take, length-drop}
 use lib.Signed.{leZ}
-use Rattle.config.specs.Rows.{maxPoints, outside, row6, row7, row11, settledRow8, settledRow9, settledSettings, spanOutside}
+use Rattle.settings.specs.Rows.{maxPoints, outside, row6, row7, row11, settledRow8, settledRow9, settledSettings, spanOutside}
 use Rattle.run.proofs.Passed.{run-sound, settled-sound}
 use Rattle.run.specs.Run.{Lent, Plan, lentChecked, planned, row12, row14, settledChecked, slicesChecked}
-use Rattle.config.specs.declared.settings.SettledConfig.{SettledConfig}
+use Rattle.settings.specs.declared.SettledConfig.{SettledConfig}
 use Rattle.series.specs.Refusals.{firstRefusal, refusedIf}
 use Rattle.series.specs.Rows.{row1, row5, row13, seriesChecked, timesChecked}
 use Rattle.series.specs.declared.refusal.Checked.{Checked}

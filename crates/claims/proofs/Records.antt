@@ -15,7 +15,7 @@ use lib.Ieee.{Float, binary64, fits, isNan, ofBits, toBits}
 use lib.Ieee.Bits.{ofBits-fits, ofBits-toBits, toBits-ofBits}
 use lib.Ieee.Fits.{nan-fits}
 use borrow.Author.Tests.{le-leb, not-false}
-use Rattle.config.specs.Rows.{outside, settledOutside, settledRow8}
+use Rattle.settings.specs.Rows.{outside, settledOutside, settledRow8}
 use Rattle.rollup.specs.declared.handler.RollupHandler.{RollupHandler}
 use Rattle.series.specs.declared.refusal.Checked.the-variants.{Accepted}
 use Rattle.series.specs.declared.refusal.Refusal.the-variants.{WindowOutside}

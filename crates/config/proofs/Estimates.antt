@@ -31,7 +31,7 @@ use Rattle.times.proofs.Milli.{within-sub}
 use Rattle.ieee.proofs.Tests.{by-test}
 use Rattle.config.specs.Estimate.{distancesFrom, distances, firstIntervals, orSilence, estimateOf}
 use Rattle.config.proofs.Bounded.{plain, Below, round-below, mul-below, add-below}
-use Rattle.config.proofs.Passed.{UpTo}
+use Rattle.settings.proofs.Passed.{UpTo}
 
 -- 0.6
 abbrev phi : Float

@@ -13,7 +13,7 @@ use Rattle.series.specs.declared.refusal.Checked.the-variants.{Accepted, Refuse
 use Rattle.series.specs.declared.refusal.Refusal.the-variants.{OverPointLimit, WindowOutside}
 use Rattle.config.specs.Estimate.{distances, distancesFrom, estimateOf}
 use Rattle.config.specs.Reach.{reachOf, boundedReach, windowOf}
-use Rattle.config.specs.Rows.{outside, overPointLimit, row10, settledLimit, settledOutside, settledRow8}
+use Rattle.settings.specs.Rows.{outside, overPointLimit, row10, settledLimit, settledOutside, settledRow8}
 
 -- rounded as floats are: 7, not 8
 pub eight-times : estimateOf (pos 0 ∷ pos 5 ∷ pos 10 ∷ pos 15 ∷ pos 20 ∷ pos 30 ∷ pos 40 ∷ pos 50 ∷ []) ≡ 7

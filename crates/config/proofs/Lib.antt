@@ -3,4 +3,3 @@ pub mod Distances
 pub mod Estimates
 pub mod Examples
 pub mod Limits
-pub mod Passed

@@ -17,14 +17,14 @@ use Rattle.series.specs.Rows.{timesChecked}
 use Rattle.series.specs.declared.refusal.Checked.{Checked}
 use Rattle.series.specs.declared.refusal.Checked.the-variants.{Accepted, Refused}
 use Rattle.series.proofs.Accepted.{all-accept}
-use Rattle.config.specs.declared.settings.RollupConfig.{RollupConfig}
+use Rattle.settings.specs.declared.RollupConfig.{RollupConfig}
 use Rattle.config.specs.Estimate.{estimateOf}
 use Rattle.config.specs.Reach.{reachOf, cappedBy, boundedReach, raisedStep, windowOf}
-use Rattle.config.specs.Rows.{outside, settledLimit, settledRow8, settingsChecked, settledOutside}
+use Rattle.settings.specs.Rows.{outside, settledLimit, settledRow8, settingsChecked, settledOutside}
 use Rattle.config.specs.Settle.{Settlement, settledReach, settledWindow, settlement, settleOf}
 use Rattle.config.proofs.Distances.{not-falling, within}
 use Rattle.config.proofs.Estimates.{estimate-small, estimate-some}
-use Rattle.config.proofs.Passed.{settings-passed}
+use Rattle.settings.proofs.Passed.{settings-passed}
 
 -- from 1 to 2^52
 pub record Settleable (n : ℕ) : Type 0 where

@@ -7,12 +7,12 @@ use Rattle.times.specs.Grid.{gridSize}
 use Rattle.series.specs.Answers.{Reply, gives, refuses, replyOf}
 use Rattle.series.specs.Refusals.{firstRefusal}
 use Rattle.series.specs.Rows.{timesChecked}
-use Rattle.config.specs.declared.settings.RollupConfig.{RollupConfig}
+use Rattle.settings.specs.declared.RollupConfig.{RollupConfig}
 use Rattle.config.specs.declared.settle.Settled.{Settled}
 use Rattle.config.specs.declared.settle.Settled.the-variants.{Accepted as SettledTo, Refused as NotSettled}
 use Rattle.config.specs.Estimate.{estimateOf}
 use Rattle.config.specs.Reach.{reachOf, boundedReach, windowOf}
-use Rattle.config.specs.Rows.{settingsChecked}
+use Rattle.settings.specs.Rows.{settingsChecked}
 
 -- the reach of the estimate, bounded by the settings
 unfoldable pub settledReach : List ℤ → RollupConfig → ℕ

@@ -1,7 +1,5 @@
-// Settings and the grid of output times: what they settle to, and where they are refused.
+// Settling: from the times of a series and a call's settings to its window and its reach.
 
-pub mod course;
 pub mod estimate;
 pub mod reach;
-pub mod settings;
 pub mod settle;

@@ -2,14 +2,13 @@
 
 use super::estimate;
 use super::reach;
-use super::settings;
-use super::settings::RollupConfig;
 use series::Checked;
 use series::Refusal;
+use settings::RollupConfig;
 ghost use mathlib.Core.Path.{_≡_};
 ghost use Rattle.series.specs.Answers.{gives, replyOf};
 ghost use Rattle.series.specs.Rows.{timesChecked};
-ghost use Rattle.config.specs.Rows.{settingsChecked};
+ghost use Rattle.settings.specs.Rows.{settingsChecked};
 ghost use Rattle.config.specs.Settle.{settledReply, settlement, settleOf};
 
 pub enum Settled {

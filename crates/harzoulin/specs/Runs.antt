@@ -3,10 +3,10 @@
 use Prim.Native.Nat.{ℕ}
 use mathlib.Core.List.{List}
 use lib.IntN.{ℤ}
-use Rattle.config.specs.declared.settings.RollupConfig.{RollupConfig}
+use Rattle.settings.specs.declared.RollupConfig.{RollupConfig}
 use Rattle.series.specs.Answers.{Outcome}
 use Rattle.run.specs.Run.{Lent, runOf, settledRunOf}
-use Rattle.config.specs.declared.settings.SettledConfig.{SettledConfig}
+use Rattle.settings.specs.declared.SettledConfig.{SettledConfig}
 use Rattle.harzoulin.specs.Exported.{unnamed}
 use Rattle.steps.specs.declared.choice.Step.{Step}
 use Rattle.steps.specs.declared.choice.Step.the-variants.{Known, Unknown}

@@ -5,7 +5,7 @@ use mathlib.Core.Bool.{Bool}
 use mathlib.Core.List.{List}
 use lib.IntN.{ℤ}
 use Rattle.config.specs.Settle.{Settlement, settleOf}
-use Rattle.config.specs.declared.settings.RollupConfig.{RollupConfig}
+use Rattle.settings.specs.declared.RollupConfig.{RollupConfig}
 use Rattle.series.specs.Answers.{Outcome, outcome}
 
 -- the settings that the numbers are

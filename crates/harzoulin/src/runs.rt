@@ -2,12 +2,12 @@
 // The count is set on acceptance only.
 
 use crate::refuse;
-use config::settings::RollupConfig;
-use config::settings::SettledConfig;
 use rollup::choice::Chosen;
 use rollup::handler::RollupHandler;
 use run::Figures;
 use series::Refusal;
+use settings::RollupConfig;
+use settings::SettledConfig;
 use steps::PreFunction;
 use steps::Step;
 ghost use mathlib.Core.Option.{Option·getD};

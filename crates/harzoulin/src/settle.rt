@@ -1,8 +1,8 @@
 // `harzoulin_settle`: `config::settle::settle` over numbers.
 
 use crate::refuse;
-use config::settings::RollupConfig;
 use config::settle::Settled;
+use settings::RollupConfig;
 ghost use mathlib.Core.Path.{_≡_};
 ghost use Rattle.harzoulin.specs.Exported.{crossed, exported};
 ghost use Rattle.harzoulin.specs.Settle.{configOf, settleOutcome, settledTo};

@@ -3,14 +3,14 @@
 // the port departs from the Rust, the number of output times, and that many answers of each of the 48 rollups. Where
 // a run is refused there are no output times, and the refusal's number and index stand for window and reach.
 // Where it is accepted, the settled run with the stored window and reach must give the same count and answers.
-use config::settings::RollupConfig;
-use config::settings::SettledConfig;
 use libc::STDIN_FILENO;
 use replay::Case;
 use replay::Tally;
 use rollup::choice::Chosen;
 use rollup::handler::RollupHandler;
 use run::Figures;
+use settings::RollupConfig;
+use settings::SettledConfig;
 use steps::PreFunction;
 use steps::Step;
 use vectors::STEP;

@@ -1,11 +1,11 @@
 // Replays the list `search`: the hinted search, the estimate, the reach of an estimate, the grid and the
 // per-call table. A case's first word says which, and the last ones are the Rust's answer.
-use config::settings::RollupConfig;
 use libc::STDIN_FILENO;
 use replay::Case;
 use replay::Tally;
 use rollup::choice::Chosen;
 use series::Checked;
+use settings::RollupConfig;
 use vectors::STEP;
 ghost use Prim.Native.Nat.{ℕ, _≤_, _<_};
 ghost use Rattle.times.specs.Grid.{OnGrid};
@@ -65,7 +65,7 @@ fn same_ends(text: &[u8], start: i64, step: i64, n: u64) -> bool
 // Whether a grid has the stored number of times, and the times of the list. A grid that the table refuses
 // counts as a difference.
 fn same_grid(text: &[u8], rc: RollupConfig, stored: u64) -> bool {
-    let checked = config::settings::check_settings(rc);
+    let checked = settings::check_settings(rc);
     if let Checked::Refused(_) = checked {
         return false;
     }

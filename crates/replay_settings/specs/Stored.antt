@@ -7,7 +7,7 @@ use lib.Dec.{eqb}
 use lib.IntN.{ℤ}
 use mir.Syntax.{w64}
 use mir.Val.{ofZ, toZ}
-use Rattle.config.specs.declared.settings.RollupConfig.{RollupConfig}
+use Rattle.settings.specs.declared.RollupConfig.{RollupConfig}
 use Rattle.vectors.specs.Words.{wordAt}
 
 -- the k-th word from a byte on, as a signed number

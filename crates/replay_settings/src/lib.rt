@@ -1,8 +1,8 @@
 // What the programs that replay the lists `settle` and `run` share: the words of a case that are settings, and
 // those that are what they settle to.
 
-use config::settings::RollupConfig;
 use config::settle::Settled;
+use settings::RollupConfig;
 use vectors::STEP;
 ghost use mathlib.Core.Bool.{true};
 ghost use mathlib.Core.Path.{_≡_};

@@ -1,17 +1,17 @@
 // Run and settled run: from a series, a preparing step, a rollup and settings to one number per output time and a count.
 // On a refusal every slice is as it was.
 
-use config::course::Course;
-use config::course::settled_course;
-use config::settings::RollupConfig;
-use config::settings::SettledConfig;
-use config::settings::check_settled;
 use config::settle::Settled;
 use config::settle::settle_settings;
 use rollup::handler::RollupHandler;
 use series::Checked;
 use series::Refusal;
 use series::check_series;
+use settings::RollupConfig;
+use settings::SettledConfig;
+use settings::check_settled;
+use settings::course::Course;
+use settings::course::settled_course;
 use steps::PreFunction;
 ghost use mathlib.Core.Path.{_≡_};
 ghost use Rattle.series.specs.Answers.{outcome};

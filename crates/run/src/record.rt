@@ -9,7 +9,7 @@ ghost use Rattle.times.specs.Later.{NotFalling};
 ghost use Rattle.run.specs.Index.{Found, valueAt, valueBefore, valueIf, predecessorAt};
 ghost use Rattle.run.specs.Place.{Timed};
 ghost use Rattle.run.specs.Record.{readings, recordAt};
-use config::course::Course;
+use settings::course::Course;
 use window::types::RollupFuncArg;
 
 // The value at k, and NaN where there is none.

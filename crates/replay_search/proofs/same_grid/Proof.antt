@@ -5,9 +5,9 @@ use mathlib.Core.Path.{_≡_, sym, _∙_}
 use native.Mathlib.Omega.{arith}
 use borrow.Author.Needs.{needs}
 use mir.Facts.{toZ-ofZ}
-use Rattle.config.proofs.Passed.{settings-passed}
-use Rattle.config.specs.Rows.{settingsChecked}
-use Rattle.config.specs.declared.settings.RollupConfig.{RollupConfig}
+use Rattle.settings.proofs.Passed.{settings-passed}
+use Rattle.settings.specs.Rows.{settingsChecked}
+use Rattle.settings.specs.declared.RollupConfig.{RollupConfig}
 use Rattle.series.specs.declared.refusal.Checked.the-variants.{Accepted}
 use Rattle.times.specs.Grid.{OnGrid, Spans, gridSize}
 use Rattle.times.proofs.Milli.{readBack, within-fits}

@@ -8,12 +8,12 @@ use lib.ListN.{length}
 use mir.Syntax.{w64}
 use mir.Val.{ofZ, toZ}
 use mir.Facts.{toZ-ofZ}
-use Rattle.config.specs.Rows.{settingsChecked}
-use Rattle.config.specs.declared.settings.RollupConfig.{RollupConfig}
-use Rattle.config.specs.Course.{course}
+use Rattle.settings.specs.Rows.{settingsChecked}
+use Rattle.settings.specs.declared.RollupConfig.{RollupConfig}
+use Rattle.settings.specs.Course.{course}
 use Rattle.config.specs.Settle.{settlement}
-use Rattle.config.specs.declared.course.Course.{Course}
-use Rattle.config.proofs.Passed.{last-row}
+use Rattle.settings.specs.declared.course.Course.{Course}
+use Rattle.settings.proofs.Passed.{last-row}
 use Rattle.series.specs.Answers.{refuses, replyOf}
 use Rattle.series.specs.Rows.{row1, row5, seriesChecked, timesChecked}
 use Rattle.series.specs.declared.refusal.Checked.the-variants.{Accepted}

@@ -3,10 +3,10 @@
 use mathlib.Core.Path.{_≡_, sym, _∙_}
 use borrow.Author.Needs.{needs}
 use lib.ListN.{length}
-use Rattle.config.specs.Course.{settledCourse}
-use Rattle.config.specs.Rows.{settledSettings}
-use Rattle.config.specs.declared.settings.SettledConfig.{SettledConfig}
-use Rattle.config.proofs.Passed.{last-row}
+use Rattle.settings.specs.Course.{settledCourse}
+use Rattle.settings.specs.Rows.{settledSettings}
+use Rattle.settings.specs.declared.SettledConfig.{SettledConfig}
+use Rattle.settings.proofs.Passed.{last-row}
 use Rattle.series.specs.Rows.{seriesChecked}
 use Rattle.series.specs.declared.refusal.Checked.the-variants.{Accepted}
 use Rattle.run.specs.Run.{lent, lentChecked, settledChecked}

@@ -6,9 +6,9 @@ use borrow.Author.Needs.{needs}
 use Rattle.series.specs.Answers.{replyOf}
 use Rattle.series.specs.Refusals.{firstRefusal}
 use Rattle.series.specs.declared.refusal.Checked.{Checked}
-use Rattle.config.specs.Rows.{settingsChecked}
+use Rattle.settings.specs.Rows.{settingsChecked}
 use Rattle.config.specs.Settle.{settlement, settleOf}
-use Rattle.config.proofs.Passed.{last-row}
+use Rattle.settings.proofs.Passed.{last-row}
 use Rattle.config.proofs.settle.settle.Statement.{statement}
 use Rattle.config.proofs.settle.settle.Tie as tie
 

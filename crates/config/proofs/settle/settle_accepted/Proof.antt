@@ -10,12 +10,12 @@ use mir.Val.{SFits}
 use mir.Facts.{toZ-ofZ}
 use Rattle.times.specs.Grid.{gridSize}
 use Rattle.times.proofs.Milli.{within-fits}
-use Rattle.config.specs.declared.settings.RollupConfig.{RollupConfig}
+use Rattle.settings.specs.declared.RollupConfig.{RollupConfig}
 use Rattle.config.specs.Settle.{settledReach, settledWindow}
 use Rattle.config.proofs.Distances.{not-falling, within}
 use Rattle.config.proofs.Estimates.{estimate-small}
 use Rattle.config.proofs.Limits.{reach-in, window-in}
-use Rattle.config.proofs.Passed.{Passed, up-to-fits, castable, settings-passed}
+use Rattle.settings.proofs.Passed.{Passed, up-to-fits, castable, settings-passed}
 use Rattle.config.proofs.settle.settle_accepted.Statement.{statement}
 use Rattle.config.proofs.settle.settle_accepted.Tie as tie
 

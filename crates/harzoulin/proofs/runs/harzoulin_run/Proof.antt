@@ -2,7 +2,7 @@
 -- Assumes nothing.
 use mathlib.Core.Path.{sym, ap, _∙_}
 use borrow.Author.Needs.{needs}
-use Rattle.config.specs.declared.settings.RollupConfig.{RollupConfig}
+use Rattle.settings.specs.declared.RollupConfig.{RollupConfig}
 use Rattle.run.specs.Run.{lent, runOf}
 use Rattle.harzoulin.proofs.Crossed.{crosses}
 use Rattle.harzoulin.proofs.Settings.{same-config}

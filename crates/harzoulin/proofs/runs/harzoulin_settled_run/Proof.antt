@@ -2,7 +2,7 @@
 -- Assumes nothing.
 use mathlib.Core.Path.{sym, ap, _∙_}
 use borrow.Author.Needs.{needs}
-use Rattle.config.specs.declared.settings.SettledConfig.{SettledConfig}
+use Rattle.settings.specs.declared.SettledConfig.{SettledConfig}
 use Rattle.run.specs.Run.{lent, settledRunOf}
 use Rattle.harzoulin.proofs.Crossed.{crosses}
 use Rattle.harzoulin.proofs.Settings.{same-settled-config}
