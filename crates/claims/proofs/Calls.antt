@@ -18,7 +18,7 @@ use Rattle.steps.proofs.Prepared.{prepared-length}
 use Rattle.times.specs.Grid.{gridSize}
 use Rattle.times.proofs.GridLaws.{grid-length}
 use Rattle.times.proofs.Readings.{zip-length}
-use Rattle.run.specs.Record.{reading}
+use Rattle.record.specs.Record.{reading}
 use Rattle.run.specs.Run.{lentChecked, planned, preparedSeries, runChecked, settledChecked}
 use Rattle.claims.specs.Calls.{Call, Settings, run, settled, accepted, checked, checkedBy, outputTimes, plan, planBy, returned, returnedBy, samples}
 

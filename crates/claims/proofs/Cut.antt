@@ -13,8 +13,8 @@ use lib.Seq.{take-at}
 use Rattle.series.specs.Answers.{Outcome}
 use Rattle.series.specs.declared.refusal.Checked.{Checked}
 use Rattle.series.specs.declared.refusal.Checked.the-variants.{Accepted, Refused}
-use Rattle.run.specs.Figures.{figures, scans}
-use Rattle.run.proofs.Loop.{scans-append}
+use Rattle.outputs.specs.Figures.{figures, scans}
+use Rattle.outputs.proofs.Loop.{scans-append}
 use Rattle.run.specs.Run.{Lent, Plan, countedOf, planned, preparedSeries}
 use Rattle.claims.specs.Calls.{Call, accepted, answers, checked, counted, ifGiven, outputTimes, plan, returned, samples}
 use Rattle.claims.specs.Cut.{AcceptedAlike, Alike, Cut, Rejoined, joined, total}

@@ -19,7 +19,7 @@ use Rattle.steps.specs.declared.Slope.{Slope}
 use Rattle.series.proofs.All.{All}
 use Rattle.steps.proofs.Resets.{lifted-fits}
 use Rattle.ieee.proofs.Tests.{by-test}
-use Rattle.run.specs.Record.{Reading, readings}
+use Rattle.record.specs.Record.{Reading, readings}
 use Rattle.claims.specs.Agree.{NoNan, Prepared}
 
 abbrev Fits : Float → Type 0

@@ -22,8 +22,8 @@ use Rattle.series.specs.declared.refusal.Refusal.the-variants.{WindowOutside}
 use Rattle.series.proofs.Accepted.{fails}
 use Rattle.times.specs.Readings.{filter, consIf}
 use Rattle.times.proofs.Order.{le-trans, lt-not-le, sub-le}
-use Rattle.run.specs.Figures.{answer}
-use Rattle.run.specs.Record.{Reading, inside, before, after, lastIfAny, window, earlier, later, next, timeOf, bitsOf, valueOf, onlyIf, orNan, laterThan, reached, where-any, predecessor, Record, recordAt}
+use Rattle.outputs.specs.Figures.{answer}
+use Rattle.record.specs.Record.{Reading, inside, before, after, lastIfAny, window, earlier, later, next, timeOf, bitsOf, valueOf, onlyIf, orNan, laterThan, reached, where-any, predecessor, Record, recordAt}
 use Rattle.claims.specs.Agree.{Agree, Bits, NoNan, Prepared, recordBits}
 use Rattle.claims.proofs.Prepared.{Number, Numbers, prepared-numbers}
 

@@ -23,8 +23,8 @@ use Rattle.ieee.specs.Patterns.{floats}
 use Rattle.window.specs.Window.{firstOr, isEmpty, lastOr, upToLast}
 use Rattle.config.specs.Estimate.{distances, distancesFrom, estimateOf}
 use Rattle.config.specs.Reach.{reachOf}
-use Rattle.run.specs.Figures.{scans}
-use Rattle.run.specs.Record.{lastIfAny}
+use Rattle.outputs.specs.Figures.{scans}
+use Rattle.record.specs.Record.{lastIfAny}
 use Rattle.claims.specs.Table.{Case, fromSecond, table}
 
 pub table-holds : map (λ (x : Case). x .computed) table ≡ map (λ (x : Case). x .stated) table

@@ -12,7 +12,7 @@ use Rattle.series.specs.Rows.{seriesChecked}
 use Rattle.steps.specs.Steps.{preparedOf}
 use Rattle.series.specs.declared.refusal.Checked.the-variants.{Accepted}
 use Rattle.steps.specs.declared.PreFunction.{PreFunction}
-use Rattle.run.specs.Record.{Reading, Record, readings, window, earlier, later, next, bitsOf, reached}
+use Rattle.record.specs.Record.{Reading, Record, readings, window, earlier, later, next, bitsOf, reached}
 
 -- a prepared series: an accepted series' times with the values the chosen step gives them
 pub record Prepared (s : List Reading) : Type 0 where

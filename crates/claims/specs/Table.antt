@@ -12,8 +12,8 @@ use Rattle.ieee.specs.Patterns.{patterns}
 use Rattle.steps.specs.Steps.{preparedOf}
 use Rattle.steps.specs.declared.PreFunction.{PreFunction}
 use Rattle.steps.specs.declared.PreFunction.the-variants.{Resets, Delta as Deltas, Deriv, Intervals}
-use Rattle.run.specs.Figures.{answer, countOf}
-use Rattle.run.specs.Record.{Reading, reading, recordAt, window}
+use Rattle.outputs.specs.Figures.{answer, countOf}
+use Rattle.record.specs.Record.{Reading, reading, recordAt, window}
 
 pub record Case : Type 0 where
   pub computed : List ℕ

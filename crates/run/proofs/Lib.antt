@@ -1,7 +1,1 @@
-pub mod Accepted
-pub mod Answer
-pub mod Index
-pub mod Limits
-pub mod Loop
-pub mod Range
 pub mod Passed

@@ -1,5 +1,1 @@
-pub mod Record
-pub mod Index
-pub mod Figures
-pub mod Place
 pub mod Run

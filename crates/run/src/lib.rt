@@ -18,8 +18,6 @@ ghost use Rattle.series.specs.Answers.{outcome};
 ghost use Rattle.run.specs.Run.{figuresReply, lent, runOf, settledRunOf};
 
 mod execute;
-mod outputs;
-mod record;
 
 // The number of samples counted, or the row that turned the call away.
 pub enum Figures {

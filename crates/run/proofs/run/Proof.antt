@@ -20,7 +20,7 @@ use Rattle.series.specs.declared.refusal.Checked.the-variants.{Accepted}
 use Rattle.series.proofs.Accepted.{all-accept}
 use Rattle.times.specs.Grid.{gridSize}
 use Rattle.times.proofs.Milli.{read-back, within-fits}
-use Rattle.run.specs.Place.{Allowed}
+use Rattle.outputs.specs.Place.{Allowed}
 use Rattle.run.specs.Run.{executed, lent, lentChecked, runChecked, runCourse, runPlan}
 use Rattle.run.proofs.Passed.{goes-by, run-sound, same-course, settling-accepted, settling-refused}
 use Rattle.run.proofs.run.Statement.{statement}

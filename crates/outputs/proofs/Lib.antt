@@ -1,0 +1,4 @@
+pub mod Accepted
+pub mod Answer
+pub mod Loop
+pub mod Range
