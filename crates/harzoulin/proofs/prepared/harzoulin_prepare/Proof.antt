@@ -2,16 +2,14 @@
 -- Assumes nothing.
 use mathlib.Core.Path.{refl, sym, _∙_}
 use borrow.Author.Needs.{needs}
-use Rattle.harzoulin.specs.Exported.{unnamed}
-use Rattle.harzoulin.proofs.Crossed.{crosses}
+use Rattle.harzoulin.proofs.Crossed.{crosses, turned-away}
 use Rattle.harzoulin.proofs.prepared.harzoulin_prepare.Statement.{statement}
 use Rattle.harzoulin.proofs.prepared.harzoulin_prepare.Tie as tie
 
 returns : tie.Need-returns
 returns c =
     let e = sym (c .before .before .before .before .step-of .ensures) ∙ c .before .before .enum-told .given .1 in
-    let old = c .before .before .before .before .before .before .before .args .prepared .now in
-    rw e (crosses {o = unnamed old} tt refl (c .refuse .ensures .0) (c .refuse .ensures .1) refl)
+    rw e (turned-away tt (c .refuse .ensures .0) (c .refuse .ensures .1))
 
 returns-2 : tie.Need-returns-2
 returns-2 c =

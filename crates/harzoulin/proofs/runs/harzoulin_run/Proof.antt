@@ -4,7 +4,7 @@ use mathlib.Core.Path.{sym, ap, _∙_}
 use borrow.Author.Needs.{needs}
 use Rattle.settings.specs.declared.RollupConfig.{RollupConfig}
 use Rattle.run.specs.Run.{lent, runOf}
-use Rattle.harzoulin.proofs.Crossed.{crosses}
+use Rattle.harzoulin.proofs.Crossed.{crosses, turned-away}
 use Rattle.harzoulin.proofs.Settings.{same-config}
 use Rattle.harzoulin.proofs.runs.harzoulin_run.Statement.{statement}
 use Rattle.harzoulin.proofs.runs.harzoulin_run.Tie as tie
@@ -22,4 +22,4 @@ returns-2 c =
 pub harzoulin-run-spec : {M : Type 1} → statement M
 harzoulin-run-spec =
     tie.close
-    (tie.spec (λ c κs. search needs) (λ c. search needs) (λ c. search needs) (λ c κs. search needs) (λ c. rw (sym (c .before .before .before .before .choose .ensures) ∙ c .before .before .enum-told .given .1) (cc (c .refuse .ensures .0, c .refuse .ensures .1))) (λ c κs. search needs) (λ c κs. search needs) (λ c. search needs) (λ c. search needs) (λ c. search needs) returns-2)
+    (tie.spec (λ c κs. search needs) (λ c. search needs) (λ c. search needs) (λ c κs. search needs) (λ c. rw (sym (c .before .before .before .before .choose .ensures) ∙ c .before .before .enum-told .given .1) (turned-away _ (c .refuse .ensures .0) (c .refuse .ensures .1))) (λ c κs. search needs) (λ c κs. search needs) (λ c. search needs) (λ c. search needs) (λ c. search needs) returns-2)
