@@ -1,6 +1,8 @@
 // The window record at an output time, from the indexes that the searches found: i readings stand at or before the
 // window's start, and j at or before the output time.
 
+use settings::course::Course;
+use window::types::RollupFuncArg;
 ghost use mathlib.Core.Path.{_≡_};
 ghost use mathlib.Core.Option.{Option·getD};
 ghost use lib.ListN.{length};
@@ -9,8 +11,6 @@ ghost use Rattle.times.specs.Later.{NotFalling};
 ghost use Rattle.record.specs.Index.{Found, valueAt, valueBefore, valueIf, predecessorAt};
 ghost use Rattle.settings.specs.Course.{Timed};
 ghost use Rattle.record.specs.Record.{readings, recordAt};
-use settings::course::Course;
-use window::types::RollupFuncArg;
 
 // The value at k, and NaN where there is none.
 fn value_at(values: &[u64], k: usize) -> f64
