@@ -5,7 +5,8 @@
  * NaN that is written is 0x7FF8000000000000.
  *
  * Each function returns one of enum harzoulin_refusal and sets *index: the first offending reading,
- * counted from 0, for refusals 3 to 5, else 0. A refusal leaves every slice as it was.
+ * counted from 0, for refusals 3 to 5, else 0. Of harzoulin_nearest 3 with index 0 may also be of
+ * the time that is asked for. A refusal leaves every slice as it was.
  *
  * A caller sees to three things. A slice has at least as many entries as its length says. No
  * pointer is null, not that of an empty slice either, which points to anything of its type; nothing
@@ -119,6 +120,10 @@ enum harzoulin_refusal {
     HARZOULIN_REFUSED_PREPARED = 13,
     /* work shorter than twice the series */
     HARZOULIN_REFUSED_WORK = 14,
+    /* limit of harzoulin_crossings NaN or infinite */
+    HARZOULIN_REFUSED_CROSSING_LIMIT = 15,
+    /* indexes shorter than the number of crossings */
+    HARZOULIN_REFUSED_INDEXES = 16,
     /* pre or rollup names none */
     HARZOULIN_REFUSED_CHOICE = 28
 };
@@ -168,6 +173,22 @@ uint64_t harzoulin_settled_run(const int64_t *timestamps, size_t timestamps_len,
                                uint64_t samples_scanned_per_call, uint64_t *dst_values,
                                size_t dst_values_len, uint64_t *prepared, size_t prepared_len,
                                double *work, size_t work_len, uint64_t *count, uint64_t *index);
+
+/* Writes the index of each reading that lies on the other side of limit from the one before it to
+ * the first entries of indexes, in order, and nothing past them. A value below limit is on the one
+ * side, a value of limit or above on the other. *count is set on acceptance only: the number of
+ * crossings, which is below values_len, or 0 without readings. Refusals: 1 to 5, 15, 16. */
+uint64_t harzoulin_crossings(const int64_t *timestamps, size_t timestamps_len,
+                             const uint64_t *values, size_t values_len, double limit,
+                             uint64_t *indexes, size_t indexes_len, uint64_t *count,
+                             uint64_t *index);
+
+/* Finds the reading nearest to time; of two that are as near, the one of the lower index. On
+ * acceptance *found is 1 and *nearest its index, counted from 0; without readings both are 0. A
+ * refusal leaves both as they were. Refusals: 2 to 4; 3 also for time outside -2^50..2^50, with
+ * index 0, after the readings' own 3. */
+uint64_t harzoulin_nearest(const int64_t *timestamps, size_t timestamps_len, int64_t time,
+                           uint64_t *found, uint64_t *nearest, uint64_t *index);
 
 #ifdef __cplusplus
 }

@@ -1,5 +1,5 @@
--- What a call through C gives back: the number that it returns, the index, the values behind its other pointers, and the lent slices. All four exported
--- functions promise one equation with this record.
+-- What a call through C gives back: the number that it returns, the index, the values behind its other pointers, and the lent slices. Each exported
+-- function promises one equation with this record.
 -- Assumes nothing.
 use Prim.Native.Nat.{ℕ}
 use mathlib.Core.Option.{Option·getD}

@@ -2,6 +2,7 @@
 // Each returns the number of its refusal (docs/REFUSALS.md), 0 where the call was accepted, and sets *index, to 0 where there is none.
 
 pub mod prepared;
+pub mod readings;
 pub mod runs;
 pub mod settle;
 

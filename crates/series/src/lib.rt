@@ -5,5 +5,6 @@ mod refusal;
 
 pub use checks::check_series;
 pub use checks::check_times;
+pub use checks::is_inside;
 pub use refusal::Checked;
 pub use refusal::Refusal;

@@ -13,7 +13,7 @@ use borrow.Author.Tests.{leb-true, leb-false, ltb-true, ltb-false}
 use Rattle.times.specs.Leading.{leading}
 use Rattle.times.specs.Later.{NotFalling, Rising, firstAfter}
 use Rattle.times.specs.Readings.{filter}
-use Rattle.times.proofs.Leading.{leading-le}
+use Rattle.times.proofs.Leading.{leading-le, leading-passes, leading-fails, leading-only}
 use Rattle.times.proofs.Readings.{filter-and, map-drop}
 use Rattle.ieee.proofs.Tests.{by-test}
 use Rattle.times.proofs.Order.{le-trans, lt-le, lt-not-le, le-refl, after-trans}
@@ -46,26 +46,18 @@ first-le ts t = leading-le (λ u. leZ u t) ts
 
 -- the times before it are at most t
 pub first-below : (ts : List ℤ) (t : ℤ) (i : ℕ) → i < firstAfter ts t → leZ (getD ts i (pos 0)) t ≡ true
-unfolding firstAfter leading
-first-below [] t i h = absurd (omega arith)
-first-below (u ∷ ts) t zero h = by-test (leZ u t) (λ e. e) (λ e. absurd (omega (arith, rw e at h)))
-first-below (u ∷ ts) t (suc i) h =
-    by-test (leZ u t) (λ e. first-below ts t i (omega (arith, rw e at h))) (λ e. absurd (omega (arith, rw e at h)))
+unfolding firstAfter
+first-below ts t i h = leading-passes (λ u. leZ u t) (pos 0) ts i h
 
 -- the time at it, if any, is after t
 pub first-at : (ts : List ℤ) (t : ℤ) → firstAfter ts t < length ts → leZ (getD ts (firstAfter ts t) (pos 0)) t ≡ false
-unfolding firstAfter leading
-first-at [] t h = absurd (omega arith)
-first-at (u ∷ ts) t h =
-    by-test (leZ u t) (λ e. rw e (first-at ts t (omega (arith, rw e at h)))) (λ e. rw e e)
+unfolding firstAfter
+first-at ts t h = leading-fails (λ u. leZ u t) (pos 0) ts h
 
 -- and no other index is so
 pub first-unique : (ts : List ℤ) (t : ℤ) (n : ℕ) → n ≤ length ts → ((i : ℕ) → i < n → leZ (getD ts i (pos 0)) t ≡ true) → (n < length ts → leZ (getD ts n (pos 0)) t ≡ false) → n ≡ firstAfter ts t
-unfolding firstAfter leading
-first-unique [] t n h below after = omega arith
-first-unique (u ∷ ts) t zero h below after = rw (after (omega arith))
-first-unique (u ∷ ts) t (suc n) h below after =
-    rw (below zero (omega arith)) (ap suc (first-unique ts t n (omega arith) (λ i k. below (suc i) (omega arith)) (λ k. after (omega arith))))
+unfolding firstAfter
+first-unique ts t n h below after = leading-only (λ u. leZ u t) (pos 0) ts n h below after
 
 -- where times do not fall, every time from it on is after t
 pub first-from : {ts : List ℤ} → NotFalling ts → (t : ℤ) (i : ℕ) → firstAfter ts t ≤ i → i < length ts → leZ (getD ts i (pos 0)) t ≡ false

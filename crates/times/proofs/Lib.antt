@@ -5,3 +5,4 @@ pub mod Leading
 pub mod Milli
 pub mod Order
 pub mod Readings
+pub mod Written

@@ -37,7 +37,7 @@ natAbs-add (pos m) (negsuc n) = natAbs-subℕ m (suc n)
 natAbs-add (negsuc m) (pos n) = omega (arith, natAbs-subℕ n (suc m))
 natAbs-add (negsuc m) (negsuc n) = omega arith
 
-natAbs-neg : (a : ℤ) → natAbs (negℤ a) ≡ natAbs a
+pub natAbs-neg : (a : ℤ) → natAbs (negℤ a) ≡ natAbs a
 natAbs-neg (pos zero) = refl
 natAbs-neg (pos (suc n)) = refl
 natAbs-neg (negsuc n) = refl

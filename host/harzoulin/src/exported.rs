@@ -13,6 +13,8 @@ pub enum Output {}
 pub enum Prepared {}
 /// Lent as the work slice.
 pub enum Work {}
+/// Lent for the indexes of crossings.
+pub enum Indexes {}
 
 /// A slice as it crosses.
 pub struct Slice<P> {
@@ -51,6 +53,12 @@ impl Prepared {
 
 impl Work {
     pub fn of(slice: &mut [impl Pattern]) -> Slice<*mut Work> {
+        Slice { length: slice.len(), pointer: slice.as_mut_ptr().cast() }
+    }
+}
+
+impl Indexes {
+    pub fn of(slice: &mut [u64]) -> Slice<*mut Indexes> {
         Slice { length: slice.len(), pointer: slice.as_mut_ptr().cast() }
     }
 }
@@ -138,6 +146,27 @@ unsafe extern "C" {
         work: *mut Work,
         work_len: usize,
         count: &mut u64,
+        index: &mut u64,
+    ) -> u64;
+
+    pub fn harzoulin_crossings(
+        timestamps: *const Times,
+        timestamps_len: usize,
+        values: *const Values,
+        values_len: usize,
+        limit: f64,
+        indexes: *mut Indexes,
+        indexes_len: usize,
+        count: &mut u64,
+        index: &mut u64,
+    ) -> u64;
+
+    pub fn harzoulin_nearest(
+        timestamps: *const Times,
+        timestamps_len: usize,
+        time: i64,
+        found: &mut u64,
+        nearest: &mut u64,
         index: &mut u64,
     ) -> u64;
 }

@@ -151,6 +151,42 @@ pub fn settled_run(
     accepted(number, index).map(|()| count)
 }
 
+/// Writes the index of each reading that lies on the other side of a limit from the one before it to
+/// the first entries of `indexes`, in order, and gives how many there are. Below is less than the
+/// limit, above is all else.
+pub fn crossings(
+    timestamps: &[i64],
+    values: &[f64],
+    limit: f64,
+    indexes: &mut [u64],
+) -> Result<usize, Refusal> {
+    let (mut count, mut index) = (0, 0);
+    let (times, values) = (Times::of(timestamps), Values::of(values));
+    let indexes = Indexes::of(indexes);
+    // Safe: `indexes` is borrowed for writing, so it overlaps neither of the others.
+    let number =
+        unsafe { ask!(harzoulin_crossings, [times, values], [limit], [indexes], [count, index]) };
+    accepted(number, index).map(|()| count as usize)
+}
+
+/// The index of the reading that is nearest to a time, the lower one of two that are as near; none
+/// only for a series without readings.
+///
+/// [`Refusal::Time`] with index 0 is of the time that is asked for, unless the first reading's own
+/// lies outside.
+///
+/// ```
+/// assert_eq!(harzoulin::nearest(&[0, 60_000, 120_000], 90_000), Ok(Some(1)));
+/// assert_eq!(harzoulin::nearest(&[], 90_000), Ok(None));
+/// ```
+pub fn nearest(timestamps: &[i64], time: i64) -> Result<Option<usize>, Refusal> {
+    let (mut found, mut nearest, mut index) = (0, 0, 0);
+    let times = Times::of(timestamps);
+    // Safe: the one slice is only read, and the places are variables.
+    let number = unsafe { ask!(harzoulin_nearest, [times], [time], [], [found, nearest, index]) };
+    accepted(number, index).map(|()| (found == 1).then_some(nearest as usize))
+}
+
 /// Nothing for number 0, else the refusal.
 fn accepted(number: u64, index: u64) -> Result<(), Refusal> {
     match number {

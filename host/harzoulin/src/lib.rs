@@ -4,6 +4,8 @@
 //! A series is two slices, times in milliseconds and values. A [`Step`] prepares the values, a
 //! [`Rollup`] makes one figure of the readings of each window, and [`Settings`] give the grid and
 //! the window. A [`Workspace`] owns the memory that a run needs and is used again for the next.
+//! [`crossings`] and [`nearest`] find readings: where the values go over a limit or back under it, and
+//! the one next to a time.
 //!
 //! ```
 //! use harzoulin::{Rollup, Settings, Step, Workspace};
@@ -17,6 +19,7 @@
 //! # Ok::<(), harzoulin::Refusal>(())
 //! ```
 
+mod crossings;
 mod exported;
 pub mod lent;
 mod refusal;
@@ -26,7 +29,8 @@ mod shared;
 mod step;
 mod workspace;
 
-pub use lent::settle;
+pub use crossings::crossings;
+pub use lent::{nearest, settle};
 pub use refusal::Refusal;
 pub use rollup::{About, Group, ROLLUPS, Rollup, Unit, UnknownRollup};
 pub use settings::{Settings, Settled, SettledSettings};

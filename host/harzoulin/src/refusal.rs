@@ -11,7 +11,8 @@ pub enum Refusal {
     Lengths,
     /// 2: more readings than [`MOST`](crate::MOST).
     Readings,
-    /// 3: a time outside ±2^50.
+    /// 3: a time outside ±2^50. Of [`nearest`](crate::nearest) index 0 may also stand for the time
+    /// that is asked for.
     Time(usize),
     /// 4: a time not above the one before.
     Order(usize),
@@ -35,6 +36,10 @@ pub enum Refusal {
     Prepared,
     /// 14: the work slice under twice the series.
     Work,
+    /// 15: the limit of crossings NaN or infinite.
+    CrossingLimit,
+    /// 16: the index slice shorter than the number of crossings.
+    Indexes,
     /// 28: a number that names no step or rollup.
     Choice,
 }
@@ -58,6 +63,8 @@ impl Refusal {
             12 => Refusal::Output,
             13 => Refusal::Prepared,
             14 => Refusal::Work,
+            15 => Refusal::CrossingLimit,
+            16 => Refusal::Indexes,
             28 => Refusal::Choice,
             _ => return None,
         })
@@ -80,6 +87,8 @@ impl Refusal {
             Refusal::Output => 12,
             Refusal::Prepared => 13,
             Refusal::Work => 14,
+            Refusal::CrossingLimit => 15,
+            Refusal::Indexes => 16,
             Refusal::Choice => 28,
         }
     }
@@ -120,6 +129,8 @@ impl Refusal {
             Refusal::Output => "the output is shorter than the grid",
             Refusal::Prepared => "the prepared slice is shorter than the series",
             Refusal::Work => "the work slice is under twice the series",
+            Refusal::CrossingLimit => "the limit of the crossings is NaN or infinite",
+            Refusal::Indexes => "the index slice is shorter than the number of crossings",
             Refusal::Choice => "the number names no step or rollup",
         }
     }

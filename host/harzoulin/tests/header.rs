@@ -2,17 +2,13 @@
 //! go by.
 
 use std::collections::BTreeSet;
+use std::fs;
 
 use harzoulin::{ROLLUPS, Refusal, Step};
 
 const HEADER: &str = include_str!("../../../include/harzoulin.h");
 const EXPORTED: &str = include_str!("../src/exported.rs");
-const PROVED: &str = concat!(
-    include_str!("../../../crates/harzoulin/src/lib.rt"),
-    include_str!("../../../crates/harzoulin/src/settle.rt"),
-    include_str!("../../../crates/harzoulin/src/prepared.rt"),
-    include_str!("../../../crates/harzoulin/src/runs.rt"),
-);
+const PROVED: &str = concat!(env!("CARGO_MANIFEST_DIR"), "/../../crates/harzoulin/src");
 const PAPER: &str = include_str!("../../../docs/ROLLUPS.md");
 
 /// The header's constants of an enum, without what all of them begin with.
@@ -27,13 +23,23 @@ fn constants(name: &str, prefix: &str) -> Vec<(String, u64)> {
     lines.map(constant).collect()
 }
 
+/// `TlastChange` as `tlast_change`.
+fn in_words(name: &str) -> String {
+    let words = name.split_inclusive(|_: char| true);
+    let words = words.map(|letter| match letter.to_lowercase() {
+        lower if lower == letter => lower,
+        lower => format!("_{lower}"),
+    });
+    words.collect::<String>().trim_start_matches('_').to_string()
+}
+
 #[test]
 fn steps() {
     let steps = Step::ALL.map(|step| (step.name().to_string(), step as u64));
     assert_eq!(constants("harzoulin_step", "HARZOULIN_STEP_"), steps);
 }
 
-/// The names are those of docs/ROLLUPS.md: `TlastChange` there is `tlast_change` here.
+/// The names are those of docs/ROLLUPS.md, in words.
 #[test]
 fn rollups() {
     let rollups = ROLLUPS.iter().zip(0..).map(|(about, number)| (about.name.to_string(), number));
@@ -42,12 +48,7 @@ fn rollups() {
     let row = |line: &'static str| {
         let mut cells = line.split('|').map(|cell| cell.trim().trim_matches('`'));
         let number = cells.nth(1)?.parse().ok()?;
-        let words = cells.next()?.split_inclusive(|_: char| true);
-        let words = words.map(|letter| match letter.to_lowercase() {
-            lower if lower == letter => lower,
-            lower => format!("_{lower}"),
-        });
-        Some((words.collect::<String>().trim_start_matches('_').to_string(), number))
+        Some((in_words(cells.next()?), number))
     };
     assert_eq!(PAPER.lines().filter_map(row).collect::<Vec<(String, u64)>>(), rollups);
 }
@@ -57,11 +58,11 @@ fn refusals() {
     let named = |number| {
         let refusal = Refusal::of(number, 0)?;
         assert_eq!(u64::from(refusal.number()), number);
-        let name = format!("{refusal:?}").replace("(0)", "").to_lowercase();
-        Some((format!("refused_{name}"), number))
+        let name = format!("{refusal:?}").replace("(0)", "");
+        Some((format!("refused_{}", in_words(&name)), number))
     };
     let refusals: Vec<(String, u64)> = (0..1000).filter_map(named).collect();
-    assert_eq!(refusals.len(), 15);
+    assert_eq!(refusals.len(), 17);
     let constants = constants("harzoulin_refusal", "HARZOULIN_");
     assert_eq!(constants[0], ("accepted".into(), 0));
     assert_eq!(constants[1..], refusals);
@@ -94,7 +95,9 @@ fn of_rust(parameter: &str) -> String {
         "&mut [f64]" => slice("double"),
         "*const Times" => format!("const int64_t *{name}"),
         "*const Values" => format!("const uint64_t *{name}"),
-        "*mut Output" | "*mut Prepared" | "&mut u64" => format!("uint64_t *{name}"),
+        "*mut Output" | "*mut Prepared" | "*mut Indexes" | "&mut u64" => {
+            format!("uint64_t *{name}")
+        }
         "*mut Work" => format!("double *{name}"),
         "&mut i64" => format!("int64_t *{name}"),
         "usize" => format!("size_t {name}"),
@@ -107,11 +110,18 @@ fn of_rust(parameter: &str) -> String {
     }
 }
 
+/// The proved source, all of its files.
+fn proved() -> String {
+    let files = fs::read_dir(PROVED).unwrap().map(|file| file.unwrap().path());
+    let sources = files.filter(|file| file.extension().is_some_and(|end| end == "rt"));
+    sources.map(|file| fs::read_to_string(file).unwrap()).collect()
+}
+
 #[test]
 fn parameters() {
     let header = functions(HEADER, "\nuint64_t ", ");", of_header);
-    assert_eq!(header.len(), 4);
+    assert_eq!(header.len(), 6);
     let (_, declared) = EXPORTED.split_once("unsafe extern \"C\" {").unwrap();
     assert_eq!(functions(declared, "pub fn ", ") -> u64", of_rust), header);
-    assert_eq!(functions(PROVED, "pub extern \"C\" fn ", ") -> u64", of_rust), header);
+    assert_eq!(functions(&proved(), "pub extern \"C\" fn ", ") -> u64", of_rust), header);
 }

@@ -11,9 +11,10 @@ fn compiled(folder: &Path, call: &str) -> Result<(), String> {
     let source = format!(
         "#![allow(unused)]\n#[path = {exported:?}]\nmod exported;\nuse exported::*;\n\
          pub unsafe fn call(times: &[i64], values: &[f64], output: &mut [f64], prepared: &mut [f64],\n\
-         work: &mut [f64]) -> u64 {{\n\
+         work: &mut [f64], indexes: &mut [u64]) -> u64 {{\n\
          let (times, values) = (Times::of(times), Values::of(values));\n\
          let (output, prepared, work) = (Output::of(output), Prepared::of(prepared), Work::of(work));\n\
+         let indexes = Indexes::of(indexes);\n\
          let (mut count, mut index) = (0, 0);\n\
          unsafe {{ {call} }}\n}}\n"
     );
@@ -64,4 +65,10 @@ fn of_settled_run() {
     let slices = ["times", "values", "output", "prepared", "work"];
     let numbers = "0, 0, 0.0, 0.0, 0, 0, 1, 1, 1, 0";
     swaps_are_refused("harzoulin_settled_run", &slices, 2, numbers, "count, index");
+}
+
+#[test]
+fn of_crossings() {
+    let slices = ["times", "values", "indexes"];
+    swaps_are_refused("harzoulin_crossings", &slices, 2, "0.0", "count, index");
 }

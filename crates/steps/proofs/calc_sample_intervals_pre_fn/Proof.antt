@@ -11,7 +11,7 @@ use lib.Ieee.{Float, nan}
 use Rattle.times.proofs.Milli.{read-back}
 use Rattle.ieee.specs.Patterns.{patterns}
 use Rattle.steps.specs.Steps.{wholeSeconds, intervalsFrom, secondTwice}
-use Rattle.steps.proofs.Written.{Written, turn, done, left-at}
+use Rattle.times.proofs.Written.{Written, turn, done, left-at}
 use Rattle.steps.proofs.calc_sample_intervals_pre_fn.Statement.{statement}
 use Rattle.steps.proofs.calc_sample_intervals_pre_fn.Tie as tie
 

@@ -11,7 +11,7 @@ use lib.Ieee.Scale.{finite}
 use Rattle.ieee.specs.Patterns.{floats, patterns}
 use Rattle.steps.specs.Steps.{deltas, deltasFrom}
 use Rattle.ieee.proofs.Numbers.{finite-number, sub-number}
-use Rattle.steps.proofs.Written.{Written, turn, last, left-at}
+use Rattle.times.proofs.Written.{Written, turn, last, left-at}
 use Rattle.steps.proofs.delta_values.Statement.{statement}
 use Rattle.steps.proofs.delta_values.Tie as tie
 

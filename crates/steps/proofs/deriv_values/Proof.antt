@@ -15,7 +15,7 @@ use Rattle.steps.specs.declared.Slope.{Slope}
 use Rattle.ieee.specs.Patterns.{floats, patterns}
 use Rattle.steps.specs.Steps.{derivs, derivsFrom, sloped}
 use Rattle.series.proofs.Times.{within-all}
-use Rattle.steps.proofs.Written.{Written, turn, last, left-at}
+use Rattle.times.proofs.Written.{Written, turn, last, left-at}
 use Rattle.steps.proofs.deriv_values.Statement.{statement}
 use Rattle.steps.proofs.deriv_values.Tie as tie
 

@@ -8,7 +8,7 @@ use lib.ListN.{length, drop, drop-of-length-le}
 use lib.Ieee.{div, neg, ofBits}
 use Rattle.ieee.specs.Patterns.{floats, patterns}
 use Rattle.steps.specs.Steps.{resets, resetsFrom}
-use Rattle.steps.proofs.Written.{Written, turn, done, left-at}
+use Rattle.times.proofs.Written.{Written, turn, done, left-at}
 use Rattle.steps.proofs.remove_counter_resets.Statement.{statement}
 use Rattle.steps.proofs.remove_counter_resets.Tie as tie
 

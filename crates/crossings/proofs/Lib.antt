@@ -1,0 +1,4 @@
+pub mod Indexes
+pub mod Asked
+pub mod Closest
+pub mod Distances
