@@ -1,5 +1,6 @@
 // A day's means of a probe, by the rollup core: over the whole grid, and again in two parts on two
-// threads, which give the same. Build and run: make -C examples/cpp run
+// threads, which give the same; and when it went over a limit.
+// Build and run: make -C examples/cpp run
 #include <cstdio>
 #include <cstring>
 #include <thread>
@@ -58,7 +59,7 @@ bool same(const std::vector<double> &whole, std::size_t from, const Lent &part) 
     return std::memcmp(&whole[from], part.output.data(), part.points * sizeof(double)) == 0;
 }
 
-// Whether a run without a reading is accepted.
+// Whether a run without a reading is accepted, and whether none is nearest to a time.
 bool accepts_no_readings() {
     Lent lent(0, 1);
     std::int64_t no_time = 0;
@@ -67,7 +68,26 @@ bool accepts_no_readings() {
         &no_time, 0, patterns(&no_value), 0, HARZOULIN_STEP_DELTA, HARZOULIN_ROLLUP_ABSENT, 0.0,
         0.0, 0, 0, hour, 0, false, false, 0, 0, 0, 0, patterns(lent.output.data()), 1,
         patterns(lent.prepared.data()), 0, lent.work.data(), 0, &lent.count, &lent.index);
-    return answer == HARZOULIN_ACCEPTED && lent.output[0] == 1.0 && lent.count == 0;
+    std::uint64_t found = 1, nearest = 1;
+    answer += harzoulin_nearest(&no_time, 0, hour, &found, &nearest, &lent.index);
+    return answer == HARZOULIN_ACCEPTED && lent.output[0] == 1.0 && lent.count == 0 && found == 0;
+}
+
+// Whether it is found when the probe went over a limit and back, if there is room for the indexes.
+bool finds_crossings(const Series &series) {
+    std::vector<std::uint64_t> indexes(series.times.size());
+    std::uint64_t count = 0, index = 0;
+    auto ask = [&](std::size_t room) {
+        return harzoulin_crossings(series.times.data(), series.times.size(),
+                                   patterns(series.values.data()), series.values.size(), 18.0,
+                                   indexes.data(), room, &count, &index);
+    };
+    if (ask(0) != HARZOULIN_REFUSED_INDEXES || ask(indexes.size()) != HARZOULIN_ACCEPTED) {
+        return false;
+    }
+    std::printf("%u crossings of 18 degrees, the first at minute %u\n",
+                static_cast<unsigned>(count), static_cast<unsigned>(indexes[0]));
+    return count > 0 && series.values[indexes[0]] >= 18.0;
 }
 
 } // namespace
@@ -93,11 +113,12 @@ int main() {
     }
     std::printf("%zu hourly means, the first %.4f, the last %.4f\n", whole.points, whole.output[0],
                 whole.output[whole.points - 1]);
+    bool crossed = finds_crossings(series);
     bool joined = same(whole.output, 0, morning) && same(whole.output, 12, evening) &&
                   morning.count + evening.count == whole.count + readings;
     series.times[7] = series.times[6];
     refused = means(series, hour, 12 * hour, window, reach, morning);
     bool ordered = refused == HARZOULIN_REFUSED_ORDER && morning.index == 7;
     std::printf("in two parts: %s\n", joined ? "the same" : "not the same");
-    return joined && ordered && accepts_no_readings() ? 0 : 1;
+    return crossed && joined && ordered && accepts_no_readings() ? 0 : 1;
 }

@@ -162,9 +162,9 @@ pub fn all(
     options: &Options,
     progress: &Progress,
 ) -> Result<Vec<Answer>, Failure> {
-    in_order(options.jobs, series, |workspace, jobs, series| {
+    in_order(options.common.jobs, series, |workspace, jobs, series| {
         let mut answer = Answer::new(workspace, jobs, series, options, progress)?;
-        if options.plot.is_none() {
+        if options.common.plot.is_none() {
             (answer.series.times, answer.series.values) = (vec![], vec![]);
         }
         Ok(answer)

@@ -1,15 +1,16 @@
 //! The command line.
 
 use std::num::NonZero;
+use std::thread;
 
 use harzoulin::{Rollup, Settings};
 
 use crate::columns::Chosen;
 use crate::failure::Failure;
 use crate::given::{Given, Task, usage, value};
-use crate::options::{Format, Options};
+use crate::options::{Common, Format, Options};
 use crate::rollups;
-use crate::time::{self, Form};
+use crate::time::{self, Form, Stamp};
 
 /// What `figures --help` prints.
 pub const HELP: &str = include_str!("help.txt");
@@ -24,6 +25,10 @@ pub enum Command {
     Figures(Options),
     /// One figure at a time.
     Explain(Options, i64),
+    /// The crossings of a limit.
+    Crossings(Common, f64),
+    /// The readings nearest to a time.
+    Nearest(Common, Stamp),
     /// The table of rollups.
     List,
     /// The series that ship, with the file for the picture.
@@ -54,14 +59,29 @@ pub fn parse(arguments: impl Iterator<Item = String>) -> Result<Command, Failure
     match task {
         Task::Figures => options(&given).map(Command::Figures),
         Task::Explain => explain(&given),
+        Task::Crossings => {
+            let limit = given.read("--limit", limit)?;
+            let limit = limit.ok_or_else(|| usage("expected --limit NUMBER for crossings"))?;
+            Ok(Command::Crossings(common(&given)?, limit))
+        }
+        Task::Nearest => {
+            let asked = asked(&given, task)?;
+            Ok(Command::Nearest(common(&given)?, asked))
+        }
         Task::List => Ok(Command::List),
         Task::Demo => Ok(Command::Demo(picture(&given)?.unwrap_or("demo.svg".into()))),
     }
 }
 
-fn explain(given: &Given) -> Result<Command, Failure> {
+/// The time that is asked for, as it is written.
+fn asked(given: &Given, task: Task) -> Result<Stamp, Failure> {
     let at = given.read("--at", time::parse)?;
-    let (at, _) = at.ok_or_else(|| usage("expected --at TIME for explain"))?;
+    let expected = || usage(format!("expected --at TIME for {}", task.word()));
+    at.map(|(at, form)| Stamp(at, form)).ok_or_else(expected)
+}
+
+fn explain(given: &Given) -> Result<Command, Failure> {
+    let Stamp(at, _) = asked(given, Task::Explain)?;
     let options = options(given)?;
     match options.rollups.len() {
         1 => Ok(Command::Explain(options, at)),
@@ -110,25 +130,13 @@ fn parameters(given: &Given, option: &str, name: &str) -> Result<Rollup, Failure
 }
 
 fn options(given: &Given) -> Result<Options, Failure> {
-    if given.files.is_empty() {
-        return Err(usage("expected a file, or - for standard input"));
-    }
-    if given.files.iter().filter(|file| *file == "-").count() > 1 {
-        return Err(usage("expected - once"));
-    }
+    let common = common(given)?;
     let window = given.duration("--window")?;
     let step = given.duration("--step")?.or(window);
     let rollups = chosen_rollups(given)?;
     let step = step.ok_or_else(|| usage("expected --step or --window"))?;
-    let mut options = Options::new(rollups, step);
-    options.files.clone_from(&given.files);
-    let [time, value, name] = ["--time-column", "--value-column", "--name-column"]
-        .map(|option| given.text(option).map(String::from));
-    options.chosen = Chosen { time, value, name };
-    options.pre = given.read("--pre", str::parse)?.unwrap_or_default();
-    options.start = given.read("--start", time::parse)?.map(|(time, _)| time);
-    options.end = given.read("--end", time::parse)?.map(|(time, _)| time);
-    options.settings = Settings {
+    let settings = Settings {
+        step,
         window: window.unwrap_or(0),
         may_adjust_window: given.flag("--adjust-window"),
         is_default_rollup: given.flag("--default-rollup"),
@@ -136,30 +144,49 @@ fn options(given: &Given) -> Result<Options, Failure> {
         min_staleness_interval: given.duration("--staleness")?.unwrap_or(0),
         max_points_per_series: given.number("--max-points")?.unwrap_or(0),
         samples_scanned_per_call: given.number("--per-call")?.unwrap_or(0),
-        ..options.settings
+        ..Settings::default()
     };
-    options.min_readings = given.positive("--min-readings")?.map_or(0, NonZero::get);
-    options.jobs = given.positive("--jobs")?.map_or(options.jobs, NonZero::get);
-    options.stats = given.flag("--stats");
-    shown(given, &mut options)?;
-    Ok(options)
-}
-
-/// How figures are shown, and where.
-fn shown(given: &Given, options: &mut Options) -> Result<(), Failure> {
-    options.format = given.read("--format", format)?.unwrap_or_default();
-    options.readings = given.flag("--readings");
-    if options.readings && options.format != Format::Csv {
+    let options = Options {
+        pre: given.read("--pre", str::parse)?.unwrap_or_default(),
+        rollups,
+        start: given.read("--start", time::parse)?.map(|(time, _)| time),
+        end: given.read("--end", time::parse)?.map(|(time, _)| time),
+        settings,
+        min_readings: given.positive("--min-readings")?.map_or(0, NonZero::get),
+        readings: given.flag("--readings"),
+        stats: given.flag("--stats"),
+        common,
+    };
+    if options.readings && options.common.format != Format::Csv {
         let format = given.text("--format").unwrap_or_default();
         let message = format!("--readings means nothing with --format {format}, which has them");
         return Err(usage(message));
     }
-    options.decimals = given.read("--decimals", decimals)?;
-    options.times = given.read("--times", form)?;
-    options.output = given.text("--output").filter(|file| *file != "-").map(String::from);
-    options.plot = picture(given)?;
-    options.unit = given.text("--unit").unwrap_or_default().into();
-    Ok(())
+    Ok(options)
+}
+
+/// The files, and how what comes of them is shown.
+fn common(given: &Given) -> Result<Common, Failure> {
+    if given.files.is_empty() {
+        return Err(usage("expected a file, or - for standard input"));
+    }
+    if given.files.iter().filter(|file| *file == "-").count() > 1 {
+        return Err(usage("expected - once"));
+    }
+    let [time, value, name] = ["--time-column", "--value-column", "--name-column"]
+        .map(|option| given.text(option).map(String::from));
+    let jobs = given.positive("--jobs")?.or(thread::available_parallelism().ok());
+    Ok(Common {
+        files: given.files.clone(),
+        chosen: Chosen { time, value, name },
+        format: given.read("--format", format)?.unwrap_or_default(),
+        decimals: given.read("--decimals", decimals)?,
+        times: given.read("--times", form)?,
+        output: given.text("--output").filter(|file| *file != "-").map(String::from),
+        plot: picture(given)?,
+        unit: given.text("--unit").unwrap_or_default().into(),
+        jobs: jobs.map_or(1, NonZero::get),
+    })
 }
 
 /// The file of the picture.
@@ -168,6 +195,10 @@ fn picture(given: &Given) -> Result<Option<String>, Failure> {
         "-" => Err("expected a file"),
         _ => Ok(file.to_string()),
     })
+}
+
+fn limit(text: &str) -> Result<f64, &'static str> {
+    text.parse().map_err(|_| "expected a number")
 }
 
 fn decimals(text: &str) -> Result<usize, String> {

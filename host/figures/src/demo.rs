@@ -55,9 +55,10 @@ fn answers(text: &[u8], line: &str, unit: &str) -> Result<(Vec<Answer>, Options)
     let Command::Figures(mut options) = arguments::parse(arguments)? else {
         unreachable!("the line names files and options only")
     };
-    options.unit = unit.into();
+    options.common.unit = unit.into();
     let progress = Progress::default();
-    let input = read::csv(&options.files[0], text, &options.chosen, &progress)?;
+    let common = &options.common;
+    let input = read::csv(&common.files[0], text, &common.chosen, &progress)?;
     let mut workspace = Workspace::new();
     let answers = |series| Answer::new(&mut workspace, 1, series, &options, &progress);
     let answers = input.series.into_iter().map(answers);

@@ -67,7 +67,7 @@ impl Figure<'_> {
     }
 
     fn stamp(&self, time: i64) -> Stamp {
-        Stamp(time, self.options.times.unwrap_or(self.series.form))
+        Stamp(time, self.options.common.form(self.series))
     }
 
     /// A reading, with what its value was before it was prepared.

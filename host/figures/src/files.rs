@@ -2,13 +2,14 @@
 
 use std::ffi::OsString;
 use std::fs::{self, File, Metadata, Permissions};
-use std::io::{self, BufWriter, Write};
+use std::io::{self, Write};
 use std::os::unix::fs::{MetadataExt, OpenOptionsExt, PermissionsExt, fchown};
 use std::path::{Path, PathBuf};
 use std::process;
 
 use crate::ended;
 use crate::failure::Failure;
+use crate::output::{Out, buffered};
 use crate::places::resolved;
 use crate::say::say;
 
@@ -22,7 +23,7 @@ impl Files {
     pub fn write(
         &mut self,
         path: &str,
-        fill: impl FnOnce(&mut BufWriter<File>) -> io::Result<()>,
+        fill: impl FnOnce(&mut Out) -> io::Result<()>,
     ) -> Result<(), Failure> {
         let failed = |error| Failure::file(path, error);
         let place = resolved(path);
@@ -161,8 +162,8 @@ fn left_behind(place: &Path) {
     }
 }
 
-fn filled(file: File, fill: impl FnOnce(&mut BufWriter<File>) -> io::Result<()>) -> io::Result<()> {
-    let mut out = BufWriter::with_capacity(1 << 16, file);
+fn filled(mut file: File, fill: impl FnOnce(&mut Out) -> io::Result<()>) -> io::Result<()> {
+    let mut out = buffered(&mut file);
     fill(&mut out)?;
     out.flush()
 }

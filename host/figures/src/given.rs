@@ -11,6 +11,8 @@ use crate::time;
 pub enum Task {
     Figures,
     Explain,
+    Crossings,
+    Nearest,
     List,
     Demo,
 }
@@ -18,13 +20,16 @@ pub enum Task {
 impl Task {
     /// The task of a first argument, if it is the word for one.
     pub fn named(word: &str) -> Option<Task> {
-        [Task::Explain, Task::List, Task::Demo].into_iter().find(|task| task.word() == word)
+        let words = [Task::Explain, Task::Crossings, Task::Nearest, Task::List, Task::Demo];
+        words.into_iter().find(|task| task.word() == word)
     }
 
-    fn word(self) -> &'static str {
+    pub fn word(self) -> &'static str {
         match self {
             Task::Figures => "",
             Task::Explain => "explain",
+            Task::Crossings => "crossings",
+            Task::Nearest => "nearest",
             Task::List => "list",
             Task::Demo => "demo",
         }
@@ -48,23 +53,26 @@ const fn flag(name: &'static str, tasks: &'static [Task]) -> Known {
 
 const ALONE: &[Task] = &[Task::Figures];
 const BOTH: &[Task] = &[Task::Figures, Task::Explain];
+const SHOWN: &[Task] = &[Task::Figures, Task::Crossings, Task::Nearest];
+const FILES: &[Task] = &[Task::Figures, Task::Explain, Task::Crossings, Task::Nearest];
 
-const OPTIONS: [Known; 29] = [
+const OPTIONS: [Known; 30] = [
     flag("--adjust-window", BOTH),
-    valued("--at", &[Task::Explain]),
-    valued("--decimals", ALONE),
+    valued("--at", &[Task::Explain, Task::Nearest]),
+    valued("--decimals", SHOWN),
     flag("--default-rollup", BOTH),
     valued("--end", BOTH),
-    valued("--format", ALONE),
+    valued("--format", SHOWN),
     valued("--holt-winters", BOTH),
-    valued("--jobs", ALONE),
+    valued("--jobs", SHOWN),
+    valued("--limit", &[Task::Crossings]),
     valued("--lookback", BOTH),
     valued("--max-points", BOTH),
     valued("--min-readings", ALONE),
-    valued("--name-column", BOTH),
-    valued("--output", ALONE),
+    valued("--name-column", FILES),
+    valued("--output", SHOWN),
     valued("--per-call", ALONE),
-    valued("--plot", &[Task::Figures, Task::Demo]),
+    valued("--plot", &[Task::Figures, Task::Crossings, Task::Demo]),
     valued("--pre", BOTH),
     valued("--predict-linear", BOTH),
     valued("--quantile", BOTH),
@@ -74,10 +82,10 @@ const OPTIONS: [Known; 29] = [
     valued("--start", BOTH),
     flag("--stats", ALONE),
     valued("--step", BOTH),
-    valued("--time-column", BOTH),
-    valued("--times", BOTH),
-    valued("--unit", ALONE),
-    valued("--value-column", BOTH),
+    valued("--time-column", FILES),
+    valued("--times", FILES),
+    valued("--unit", &[Task::Figures, Task::Crossings]),
+    valued("--value-column", FILES),
     valued("--window", BOTH),
 ];
 
@@ -125,17 +133,18 @@ impl Given {
 
     /// An error where an option or a file means nothing to the task, or beside the others.
     pub fn meaningful(&self, task: Task) -> Result<(), Failure> {
-        let means = |known: &Known| known.tasks.contains(&task);
-        let known = |name: &str| OPTIONS.iter().find(|known| known.name == name);
-        let nothing = self.options.iter().find(|(name, _)| !known(name).is_some_and(means));
+        let given = self.options.iter();
+        let mut known =
+            given.filter_map(|(name, _)| OPTIONS.iter().find(|known| known.name == *name));
+        let nothing = known.find(|known| !known.tasks.contains(&task));
+        if let (Some(Known { name, tasks, .. }), Task::Figures) = (nothing, task) {
+            let words: Vec<&str> = tasks.iter().map(|task| task.word()).collect();
+            return Err(usage(format!("{name} means nothing without {}", words.join(" or "))));
+        }
         let no_files = matches!(task, Task::List | Task::Demo);
         let file = self.files.first().filter(|_| no_files).map(|file| excerpt(file));
-        match (nothing.map(|(name, _)| name.to_string()).or(file), task.word()) {
-            (None, _) => {}
-            (Some(name), "") => {
-                return Err(usage(format!("{name} means nothing without explain")));
-            }
-            (Some(name), word) => return Err(usage(format!("figures {word} takes no {name}"))),
+        if let Some(name) = nothing.map(|known| known.name.to_string()).or(file) {
+            return Err(usage(format!("figures {} takes no {name}", task.word())));
         }
         let without =
             WITHOUT.into_iter().find(|(name, other)| self.flag(name) && !self.flag(other));

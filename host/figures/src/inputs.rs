@@ -5,7 +5,7 @@ use std::time::{Duration, Instant};
 use crate::failure::Failure;
 use crate::jobs::in_order;
 use crate::joined::joined;
-use crate::options::Options;
+use crate::options::Common;
 use crate::progress::Progress;
 use crate::read;
 use crate::series::{self, Series};
@@ -23,11 +23,11 @@ pub struct Inputs {
 
 impl Inputs {
     /// Reads the files, which the jobs share.
-    pub fn read(options: &Options, progress: &Progress) -> Result<Inputs, Failure> {
-        let files = options.files.iter().collect();
-        let files = in_order(options.jobs, files, |_, _, file: &String| {
+    pub fn read(common: &Common, progress: &Progress) -> Result<Inputs, Failure> {
+        let files = common.files.iter().collect();
+        let files = in_order(common.jobs, files, |_, _, file: &String| {
             let begin = Instant::now();
-            let input = read::file(file, &options.chosen, progress)?;
+            let input = read::file(file, &common.chosen, progress)?;
             Ok((input, begin.elapsed()))
         })?;
         let (mut all, mut notes, mut reading) = (vec![], vec![], Duration::ZERO);

@@ -4,6 +4,7 @@ mod answer;
 mod arguments;
 mod closed;
 mod columns;
+mod crossings;
 mod demo;
 mod ended;
 mod explain;
@@ -15,6 +16,7 @@ mod inputs;
 mod jobs;
 mod joined;
 mod list;
+mod nearest;
 mod options;
 mod output;
 mod places;
@@ -67,6 +69,8 @@ fn run(command: Command) -> Result<(), Failure> {
     match command {
         Command::Figures(options) => figures(&options),
         Command::Explain(options, at) => explain(&options, at),
+        Command::Crossings(common, limit) => crossings::run(&common, limit),
+        Command::Nearest(common, asked) => nearest::run(&common, asked),
         Command::List => output::text(&list::text()),
         Command::Demo(plot) => demo::run(&plot),
         Command::Help => output::text(HELP),
@@ -75,15 +79,16 @@ fn run(command: Command) -> Result<(), Failure> {
 }
 
 fn figures(options: &Options) -> Result<(), Failure> {
-    places::distinct(options)?;
+    places::distinct(&options.common)?;
     let (answers, notes, reading) = Progress::default().shown(|progress| {
-        let Inputs { series, notes, reading } = Inputs::read(options, progress)?;
-        plot::fits(options, series.len())?;
+        let Inputs { series, notes, reading } = Inputs::read(&options.common, progress)?;
+        let parts = series.len() * options.rollups.len();
+        plot::fits(&options.common, parts, "series and rollups")?;
         Ok((answer::all(series, options, progress)?, notes, reading))
     })?;
     let begin = Instant::now();
     let mut files = Files::default();
-    if let Some(path) = &options.plot {
+    if let Some(path) = &options.common.plot {
         plot::write(path, &[(&answers, options)], &mut files)?;
     }
     write::figures(&answers, options, &mut files)?;
@@ -96,7 +101,7 @@ fn figures(options: &Options) -> Result<(), Failure> {
 }
 
 fn explain(options: &Options, at: i64) -> Result<(), Failure> {
-    let Inputs { series, notes, .. } = Inputs::read(options, &Progress::default())?;
+    let Inputs { series, notes, .. } = Inputs::read(&options.common, &Progress::default())?;
     let texts = series.iter().map(|series| explain::text(series, options, at));
     output::text(&texts.collect::<Result<Vec<_>, _>>()?.join("\n"))?;
     notes.iter().for_each(say);

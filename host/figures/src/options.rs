@@ -1,8 +1,5 @@
 //! The options of a run.
 
-use std::num::NonZero;
-use std::thread;
-
 use harzoulin::{Rollup, Settings, Step};
 
 use crate::columns::Chosen;
@@ -22,11 +19,32 @@ pub enum Format {
     Json,
 }
 
+/// What all that read files are told: the files, and how what comes of them is shown.
+#[derive(Clone, Debug)]
+pub struct Common {
+    pub files: Vec<String>,
+    pub chosen: Chosen,
+    pub format: Format,
+    /// Digits after the point; else the shortest text that reads back to the same bits.
+    pub decimals: Option<usize>,
+    pub times: Option<Form>,
+    pub output: Option<String>,
+    pub plot: Option<String>,
+    pub unit: String,
+    pub jobs: usize,
+}
+
+impl Common {
+    /// How the times of a series are written.
+    pub fn form(&self, series: &Series) -> Form {
+        self.times.unwrap_or(series.form)
+    }
+}
+
 /// The options of a run.
 #[derive(Clone, Debug)]
 pub struct Options {
-    pub files: Vec<String>,
-    pub chosen: Chosen,
+    pub common: Common,
     pub pre: Step,
     pub rollups: Vec<Rollup>,
     pub start: Option<i64>,
@@ -35,46 +53,16 @@ pub struct Options {
     pub settings: Settings,
     /// A figure of fewer readings is left out.
     pub min_readings: u32,
-    pub format: Format,
     /// Whether CSV has how many readings stand behind each figure.
     pub readings: bool,
-    /// Digits after the point; else the shortest text that reads back to the same bits.
-    pub decimals: Option<usize>,
-    pub times: Option<Form>,
-    pub output: Option<String>,
-    pub plot: Option<String>,
-    pub unit: String,
-    pub jobs: usize,
     pub stats: bool,
 }
 
 impl Options {
-    /// Options for rollups with windows that meet one another.
-    pub fn new(rollups: Vec<Rollup>, step: i64) -> Options {
-        Options {
-            files: vec![],
-            chosen: Chosen::default(),
-            pre: Step::None,
-            rollups,
-            start: None,
-            end: None,
-            settings: Settings { step, ..Settings::default() },
-            min_readings: 0,
-            format: Format::Csv,
-            readings: false,
-            decimals: None,
-            times: None,
-            output: None,
-            plot: None,
-            unit: String::new(),
-            jobs: thread::available_parallelism().map_or(1, NonZero::get),
-            stats: false,
-        }
-    }
-
     /// Whether the readings behind each figure are counted.
     pub fn counts_readings(&self) -> bool {
-        self.readings || self.min_readings > 0 || self.plot.is_some() || self.format != Format::Csv
+        let shown = self.common.plot.is_some() || self.common.format != Format::Csv;
+        self.readings || self.min_readings > 0 || shown
     }
 
     /// The settings for a series: its own grid where none is given.

@@ -8,7 +8,7 @@ use std::os::unix::fs::MetadataExt;
 use std::path::{Path, PathBuf};
 
 use crate::failure::Failure;
-use crate::options::Options;
+use crate::options::Common;
 
 /// A file by itself.
 #[derive(PartialEq)]
@@ -20,13 +20,13 @@ enum Place {
 }
 
 /// An error where writing the outputs would destroy what is read, or one another.
-pub fn distinct(options: &Options) -> Result<(), Failure> {
-    let figures = match &options.output {
+pub fn distinct(common: &Common) -> Result<(), Failure> {
+    let figures = match &common.output {
         Some(path) => (format!("--output {path}"), named(path)),
         None => ("standard output".into(), opened(stdout().as_fd())),
     };
-    let picture = options.plot.as_ref().map(|path| (format!("--plot {path}"), named(path)));
-    let inputs = options.files.iter().map(|file| match file.as_str() {
+    let picture = common.plot.as_ref().map(|path| (format!("--plot {path}"), named(path)));
+    let inputs = common.files.iter().map(|file| match file.as_str() {
         "-" => ("standard input", opened(stdin().as_fd())),
         path => (path, named(path)),
     });

@@ -62,7 +62,11 @@ impl Progress {
     fn line(&self) -> String {
         let millions = self.lines.load(Relaxed) as f64 / 1e6;
         let (points, expected) = (self.points.load(Relaxed), self.expected.load(Relaxed));
-        format!("{millions:.1} million lines read, {points} of {expected} output times worked out")
+        let lines = format!("{millions:.1} million lines read");
+        match expected {
+            0 => lines,
+            _ => format!("{lines}, {points} of {expected} output times worked out"),
+        }
     }
 }
 
@@ -74,6 +78,7 @@ mod tests {
     fn output_times_are_counted() {
         let progress = Progress::default();
         progress.read(1_250_000);
+        assert_eq!(progress.line(), "1.2 million lines read");
         progress.expect(1000);
         progress.expect(500);
         progress.worked_out(7);

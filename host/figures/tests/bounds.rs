@@ -66,7 +66,12 @@ fn a_field_is_not_repeated_whole() {
     }
     let options = ["--start", "--pre", "--format", "--jobs", "--value-column", "--min-readings"];
     let lines = options.map(|option| format!("{line} {option} {long}"));
-    let others = [format!("--rollup {long} --step 1m -"), format!("--rollup avg --step {long} -")];
+    let others = [
+        format!("--rollup {long} --step 1m -"),
+        format!("--rollup avg --step {long} -"),
+        format!("crossings --limit {long} -"),
+        format!("nearest --at {long} -"),
+    ];
     for line in lines.into_iter().chain(others) {
         let errors = errors(&line, "time,value\n0,1\n".into());
         assert!(errors.contains(&short) && errors.len() < 300, "{errors}");

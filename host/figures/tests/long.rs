@@ -36,8 +36,13 @@ fn write(folder: &common::Folder, readings: i64) {
 
 /// The seconds and the sizes and times of a run that writes out.csv.
 fn run(folder: &common::Folder, options: &str) -> (f64, String) {
+    bounded(folder, &format!("{options} --stats"), MEMORY)
+}
+
+/// The seconds and standard error of a command that writes out.csv in so many kilobytes.
+fn bounded(folder: &common::Folder, options: &str, memory: u64) -> (f64, String) {
     let line = format!(
-        "ulimit -v {MEMORY}; exec {} {options} --stats --output out.csv long.csv",
+        "ulimit -v {memory}; exec {} {options} --output out.csv long.csv",
         env!("CARGO_BIN_EXE_figures")
     );
     let begin = Instant::now();
@@ -65,6 +70,26 @@ fn thirty_years() {
         }
         println!("harzoulin_run alone, in memory at hand: {:.3} s\n", core(step));
     }
+}
+
+/// Crossings need no more memory than the readings, where they are few, and the picture is small.
+#[test]
+#[ignore = "takes some seconds and half a gigabyte of disk"]
+fn crossings_of_thirty_years() {
+    let folder = common::Folder::new("crossed");
+    write(&folder, READINGS);
+    let values: Vec<f64> = (0..READINGS).map(|place| reading(place).1).collect();
+    for limit in [1562.0, 780.0] {
+        let line = format!("crossings --limit {limit} --plot out.svg");
+        let (seconds, said) = bounded(&folder, &line, MEMORY / 2);
+        let crossed = values.windows(2).filter(|pair| (pair[0] < limit) != (pair[1] < limit));
+        assert_eq!(folder.read("out.csv").lines().count(), 1 + crossed.count());
+        assert_eq!((said.as_str(), folder.read("out.svg").len() < 200_000), ("", true));
+        println!("{line}: {seconds:.2} s");
+    }
+    let (seconds, _) = bounded(&folder, "nearest --at 2010-05-05T01:02:03Z", MEMORY / 2);
+    assert!(folder.read("out.csv").ends_with("\n8068382,1273021320000,4.84375,3000\n"));
+    println!("nearest: {seconds:.2} s");
 }
 
 #[test]

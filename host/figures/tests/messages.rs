@@ -81,6 +81,52 @@ fn refusals_of_explain() {
     refused(line, READINGS, message);
 }
 
+/// Those of the readings go before that of the limit.
+#[test]
+fn refusals_of_crossings() {
+    let of = |limit: &str, input: &str, message: &str| {
+        refused(&format!("crossings --limit {limit} -"), input, message);
+    };
+    of(
+        "nan",
+        "time,value\n5,1\n5,NaN\n",
+        ":3: refusal 4 at reading 2: the time is not above the one before: 5 after 5",
+    );
+    of("nan", "0,1\n1,inf\n", ":2: refusal 5 at reading 2: the value is NaN or infinite: inf");
+    let sentence = "refusal 15: the limit of the crossings is NaN or infinite";
+    for (limit, number) in [("NaN", "NaN"), ("-inf", "-inf"), ("1e999", "inf")] {
+        of(limit, READINGS, &format!(": {sentence}: {number}"));
+    }
+    of("inf", "a,0,1\n", &format!(": series a: {sentence}: inf"));
+}
+
+/// The asked time is told from a reading's own, and looked at before the order of the readings.
+#[test]
+fn refusals_of_nearest() {
+    let of = |at: &str, input: &str, message: &str| {
+        refused(&format!("nearest --at {at} -"), input, message);
+    };
+    let asked = "refusal 3: the asked time lies outside ±2^50 milliseconds";
+    for at in ["1125899906842625", "-1125899906842625", "9223372036854775807"] {
+        let message = format!(": {asked}: {at}");
+        of(at, READINGS, &message);
+        of(at, "", &message);
+        of(at, "5,1\n5,1\n", &message);
+        of(at, "a,0,1\n", &format!(": series a{message}"));
+    }
+    for at in ["0", "1125899906842625"] {
+        for (input, place) in [("1125899906842625,1\n", 1), ("0,1\n1125899906842625,1\n", 2)] {
+            let own = "the time lies outside ±2^50 milliseconds: 1125899906842625";
+            of(at, input, &format!(":{place}: refusal 3 at reading {place}: {own}"));
+        }
+    }
+    of(
+        "0",
+        "5,1\n5,1\n",
+        ":2: refusal 4 at reading 2: the time is not above the one before: 5 after 5",
+    );
+}
+
 #[test]
 fn rollups_of_other_names() {
     let errors = |line: &str| figures(line, READINGS.as_bytes()).errors;

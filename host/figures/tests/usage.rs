@@ -52,10 +52,27 @@ fn messages() {
         "--rollup avg --step 1m --format xml -",
         "--format: expected csv, text or json, found \"xml\"",
     );
-    refused("--rollup avg --step 1m --at 0 -", "--at means nothing without explain");
+    refused("--rollup avg --step 1m --at 0 -", "--at means nothing without explain or nearest");
+    refused("--rollup avg --step 1m --limit 0 -", "--limit means nothing without crossings");
     refused("explain --rollup avg --step 1m -", "expected --at TIME for explain");
     refused("list --step 1m", "figures list takes no --step");
     refused("demo file.csv", "figures demo takes no file.csv");
+}
+
+#[test]
+fn messages_of_crossings_and_nearest() {
+    refused("crossings -", "expected --limit NUMBER for crossings");
+    refused("crossings --limit 40", "expected a file, or - for standard input");
+    refused("crossings --limit 40 - -", "expected - once");
+    refused("crossings --limit forty -", "--limit: expected a number, found \"forty\"");
+    refused("crossings --limit 4,5 -", "--limit: expected a number, found \"4,5\"");
+    refused("crossings --limit 40 --limit 41 -", "--limit is given twice");
+    refused("nearest -", "expected --at TIME for nearest");
+    refused("nearest --at 0", "expected a file, or - for standard input");
+    refused(
+        "nearest --at noon -",
+        "--at: expected a time: milliseconds, or as 2026-01-31T12:00:00Z, found \"noon\"",
+    );
 }
 
 /// What means nothing where it stands may have been meant otherwise.
@@ -121,6 +138,38 @@ fn options_that_mean_nothing() {
         refused(&line, &format!("figures explain takes no {name}"));
     }
     refused(&format!("explain {line} --rollup max --at 0 -"), "figures explain takes one rollup");
+}
+
+/// Neither crossings nor the nearest reading have a window, a grid or a rollup.
+#[test]
+fn options_of_figures() {
+    for option in [
+        "--rollup avg",
+        "--quantile 0.5",
+        "--pre none",
+        "--step 1m",
+        "--window 1m",
+        "--start 0",
+        "--end 0",
+        "--lookback 1m",
+        "--adjust-window",
+        "--max-points 5",
+        "--min-readings 2",
+        "--readings",
+        "--stats",
+    ] {
+        let name = option.split(' ').next().unwrap();
+        let message = |task: &str| format!("figures {task} takes no {name}");
+        refused(&format!("crossings --limit 40 {option} -"), &message("crossings"));
+        refused(&format!("nearest --at 0 {option} -"), &message("nearest"));
+    }
+    refused("crossings --limit 40 --at 0 -", "figures crossings takes no --at");
+    refused("crossings --limit 40 --unit m -", "--unit means nothing without --plot");
+    refused("crossings --limit 40 --plot - -", "--plot: expected a file, found \"-\"");
+    for option in ["--limit 40", "--plot p.svg", "--unit m"] {
+        let name = option.split(' ').next().unwrap();
+        refused(&format!("nearest --at 0 {option} -"), &format!("figures nearest takes no {name}"));
+    }
 }
 
 #[test]

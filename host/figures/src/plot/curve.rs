@@ -1,37 +1,39 @@
-//! Readings, gaps and figures inside the panels.
+//! Lines inside the panels, and the readings and their gaps.
 
 use std::fmt::Write;
 use std::ops::Range;
 
 use super::axis::Axis;
-use super::part::{Part, RIGHT, shown};
+use super::canvas::{Canvas, RIGHT, shown};
 
 /// Up to so many readings or figures are drawn one by one.
 pub const SINGLE: usize = 400;
 
-impl Part<'_> {
-    /// Whether the next reading is missing for long: twice the reach.
-    fn silent(&self, place: usize) -> bool {
-        let times = &self.answer.series.times;
-        times[place + 1] - times[place] > 2 * self.answer.settled.reach
+impl Canvas<'_> {
+    /// Where the next reading is missing for long: the ends of the gap. One that is narrower than a
+    /// column of the picture cannot be seen, so that there are never more than there are columns.
+    fn gap(&self, place: usize) -> Option<(f64, f64)> {
+        let (time, next) = (self.series.times[place], self.series.times[place + 1]);
+        if next - time <= self.silence {
+            return None;
+        }
+        let (from, to) = (self.inside(time), self.inside(next));
+        (((to - from) * 10.0).round() >= 10.0).then_some((from, to))
     }
 
     /// The place of a time, inside the frame.
-    fn inside(&self, time: i64) -> f64 {
+    pub fn inside(&self, time: i64) -> f64 {
         self.x.place(time as f64).clamp(self.left, RIGHT)
     }
 
     /// Shades the gaps between readings, also with one that is not shown.
     pub fn gaps(&mut self) {
-        let times = &self.answer.series.times;
+        let times = &self.series.times;
         let (panels, shown) = (self.heights(), shown(times, self.low, self.high));
         for place in shown.start.saturating_sub(1)..shown.end.min(times.len().saturating_sub(1)) {
-            let (from, to) = (self.inside(times[place]), self.inside(times[place + 1]));
+            let Some((from, to)) = self.gap(place) else { continue };
             let width = ((to - from) * 10.0).round() / 10.0;
-            if width < 1.0 || !self.silent(place) {
-                continue;
-            }
-            for (top, bottom) in panels {
+            for (top, bottom) in &panels {
                 let height = bottom - top;
                 self.put(format_args!(
                     "<rect class=\"gap\" x=\"{from}\" y=\"{top}\" width=\"{width}\" height=\"{height}\"/>"
@@ -46,11 +48,11 @@ impl Part<'_> {
 
     /// A line through the readings, broken at gaps. Few readings have a dot each.
     pub fn readings(&mut self) {
-        let (times, values) = (&self.answer.series.times, &self.answer.series.values);
+        let (times, values) = (&self.series.times, &self.series.values);
         let shown = shown(times, self.low, self.high);
         let time = |place: usize| times[place];
-        let path =
-            self.path(&self.panels[0].y, shown.clone(), time, values, |place| self.silent(place));
+        let breaks = |place| self.gap(place).is_some();
+        let path = self.path(&self.panels[0].y, shown.clone(), time, values, breaks);
         self.put(format_args!("<path class=\"line\" d=\"{path}\"/>"));
         let single = shown.len() <= SINGLE;
         for place in shown.filter(|_| single) {
@@ -60,56 +62,9 @@ impl Part<'_> {
         }
     }
 
-    /// The figures, as [`single`](Part::single) ones if they are few, else as a line. Where there
-    /// is no figure a tick stands at the bottom.
-    pub fn figures(&mut self) {
-        let bottom = self.panels[1].bottom;
-        let missing = (0..self.figures.len()).filter(|place| !self.figures[*place].is_finite());
-        let ticks = missing.map(|place| self.inside(self.answer.time(place)).round());
-        let mut ticks: Vec<f64> = ticks.collect();
-        ticks.dedup();
-        let ticks: String = ticks.iter().map(|x| format!("M{x} {}v-6", bottom - 1.0)).collect();
-        self.put(format_args!("<path class=\"none\" d=\"{ticks}\"/>"));
-        for (thin, class) in [(false, ""), (true, " thin")] {
-            let figure = |place: usize| match self.is_thin(place) == thin {
-                true => self.figures[place],
-                false => f64::NAN,
-            };
-            let figures: Vec<f64> = (0..self.figures.len()).map(figure).collect();
-            if figures.len() > SINGLE {
-                self.line(&figures, class);
-            } else {
-                self.single(&figures, class);
-            }
-        }
-    }
-
-    /// Each figure as a bar along its window, with a dot at its output time.
-    fn single(&mut self, figures: &[f64], class: &str) {
-        let (answer, window) = (self.answer, self.answer.settled.window);
-        for place in (0..figures.len()).filter(|place| figures[*place].is_finite()) {
-            let time = answer.time(place);
-            let (from, to) = (self.inside(time - window), self.inside(time));
-            let height = self.panels[1].y.place(figures[place]);
-            self.put(format_args!("<path class=\"window{class}\" d=\"M{from} {height}H{to}\"/>"));
-            self.put(format_args!(
-                "<circle class=\"figure{class}\" cx=\"{to}\" cy=\"{height}\" r=\"2.6\"/>"
-            ));
-        }
-    }
-
-    /// The figures as a line that is broken where there is none.
-    fn line(&mut self, figures: &[f64], class: &str) {
-        let missing = |place: usize| !figures[place].is_finite();
-        let breaks = |place| missing(place) || missing(place + 1);
-        let time = |place| self.answer.time(place);
-        let path = self.path(&self.panels[1].y, 0..figures.len(), time, figures, breaks);
-        self.put(format_args!("<path class=\"figures{class}\" d=\"{path}\"/>"));
-    }
-
     /// A line through numbers, broken after some; of those that share a column of the picture the
     /// first, the least, the greatest and the last are drawn.
-    fn path(
+    pub fn path(
         &self,
         y: &Axis,
         places: Range<usize>,

@@ -1,17 +1,21 @@
 //! A picture of readings and figures, as SVG: for each series the readings above, the figures with
-//! their windows below, and the time under both.
+//! their windows below, and the time under both. Or of readings with the crossings of a limit.
 
 mod axis;
+mod canvas;
+mod crossed;
 mod curve;
+mod figures;
 mod panel;
 mod part;
 
 use std::io::Write;
 
 use crate::answer::Answer;
+use crate::crossings::Crossed;
 use crate::failure::Failure;
 use crate::files::Files;
-use crate::options::Options;
+use crate::options::{Common, Options};
 use part::{HEIGHT, Part};
 
 const WIDTH: f64 = 1000.0;
@@ -26,12 +30,11 @@ const STYLE: &str = "text{font:12px sans-serif;fill:#333}.title{font-weight:bold
 /// The most parts of a picture.
 const PARTS: usize = 24;
 
-/// An error where a picture would have too many parts to be looked at.
-pub fn fits(options: &Options, series: usize) -> Result<(), Failure> {
-    let parts = series * options.rollups.len();
-    match &options.plot {
+/// An error where a picture would have too many parts to be looked at: one for each of something.
+pub fn fits(common: &Common, parts: usize, of: &str) -> Result<(), Failure> {
+    match &common.plot {
         Some(path) if parts > PARTS => Err(Failure::Input(format!(
-            "--plot {path}: expected at most {PARTS} series and rollups for a picture, found {parts}"
+            "--plot {path}: expected at most {PARTS} {of} for a picture, found {parts}"
         ))),
         _ => Ok(()),
     }
@@ -50,14 +53,39 @@ pub fn write(
             (0..options.rollups.len()).map(move |rollup| (answer, options, rollup))
         })
         .collect();
-    let height = HEIGHT * parts.len() as f64;
+    let draw =
+        |part: &(&Answer, &Options, usize), top| Part::new(part.0, part.1, part.2, top).draw();
+    picture(path, STYLE, (&parts, HEIGHT), draw, files)
+}
+
+/// Writes a picture of crossings, with a part for each series.
+pub fn crossings(
+    path: &str,
+    found: &[Crossed],
+    common: &Common,
+    files: &mut Files,
+) -> Result<(), Failure> {
+    let style = format!("{STYLE}{}", crossed::STYLE);
+    let draw = |crossed: &Crossed, top| crossed::draw(crossed, common, top);
+    picture(path, &style, (found, crossed::HEIGHT), draw, files)
+}
+
+/// Writes a picture of parts, each of which has a height and is drawn under those before it.
+fn picture<T>(
+    path: &str,
+    style: &str,
+    (parts, each): (&[T], f64),
+    draw: impl Fn(&T, f64) -> String,
+    files: &mut Files,
+) -> Result<(), Failure> {
+    let height = each * parts.len() as f64;
     let mut svg = format!(
         "<svg xmlns=\"http://www.w3.org/2000/svg\" viewBox=\"0 0 {WIDTH} {height}\" \
-         width=\"{WIDTH}\" height=\"{height}\">\n<style>{STYLE}</style>\n\
+         width=\"{WIDTH}\" height=\"{height}\">\n<style>{style}</style>\n\
          <rect width=\"{WIDTH}\" height=\"{height}\" fill=\"#fff\"/>\n"
     );
-    for (place, (answer, options, rollup)) in parts.into_iter().enumerate() {
-        svg += &Part::new(answer, options, rollup, HEIGHT * place as f64).draw();
+    for (place, part) in parts.iter().enumerate() {
+        svg += &draw(part, each * place as f64);
     }
     svg += "</svg>\n";
     files.write(path, |out| out.write_all(svg.as_bytes()))

@@ -45,7 +45,7 @@ impl Panel {
 }
 
 /// The least and the greatest number that is finite; 0 and 1 where there is none.
-fn ends(numbers: &[f64]) -> (f64, f64) {
+pub fn ends(numbers: &[f64]) -> (f64, f64) {
     let finite = numbers.iter().copied().filter(|number| number.is_finite());
     let (low, high) = finite.fold((f64::MAX, f64::MIN), |(l, h), n| (l.min(n), h.max(n)));
     if low <= high { (low, high) } else { (0.0, 1.0) }

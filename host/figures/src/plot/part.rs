@@ -1,31 +1,18 @@
 //! The part of a picture that belongs to a series and a rollup.
 
-use std::fmt::Write;
-use std::ops::Range;
-
 use harzoulin::{Rollup, Step, Unit};
 
-use super::axis::{self, Axis};
+use super::canvas::{Canvas, TIMES, TITLE, shown};
 use super::curve::SINGLE;
 use super::panel::Panel;
 use crate::answer::Answer;
 use crate::options::Options;
-use crate::text::visible;
 use crate::time::format_duration;
 
-/// The frames end here, and begin here or where the longest mark has room.
-pub const RIGHT: f64 = 960.0;
-const LEFT: f64 = 90.0;
-/// The room of the label beside a panel, of a letter, and between a mark and the frame.
-const LABEL: f64 = 24.0;
-const LETTER: f64 = 7.0;
-const SPACE: f64 = 6.0;
-/// The heights of a series: its title, the two panels with what lies between, the times.
-const TITLE: f64 = 34.0;
+/// The heights of the two panels, and of what lies between.
 const READINGS: f64 = 170.0;
 const BETWEEN: f64 = 16.0;
 const FIGURES: f64 = 130.0;
-const TIMES: f64 = 46.0;
 pub const HEIGHT: f64 = TITLE + READINGS + BETWEEN + FIGURES + TIMES;
 
 /// The part of the usual number of readings that a window has to have to be drawn as a full one.
@@ -33,22 +20,14 @@ const FULL: f64 = 0.75;
 
 /// The part, as it is drawn.
 pub struct Part<'a> {
+    /// The readings, and the figures below them.
+    pub canvas: Canvas<'a>,
     pub answer: &'a Answer,
     options: &'a Options,
     rollup: Rollup,
     pub figures: &'a [f64],
     /// A window of fewer readings is a thin one.
     full: f64,
-    top: f64,
-    /// The first and the last time that are shown.
-    pub low: i64,
-    pub high: i64,
-    /// The readings, and the figures below them.
-    pub panels: [Panel; 2],
-    /// Where the frames begin, and from times to places.
-    pub left: f64,
-    pub x: Axis,
-    svg: String,
 }
 
 impl<'a> Part<'a> {
@@ -72,12 +51,10 @@ impl<'a> Part<'a> {
             _ => Panel::of_numbers,
         };
         let below = below(above.bottom + BETWEEN, FIGURES, figures);
-        let panels = [above, below];
-        let longest = panels.iter().map(Panel::longest).max().unwrap_or(0);
-        let left = LEFT.max(LABEL + LETTER * longest as f64 + SPACE);
-        let x = Axis::new(low as f64, high as f64, left, RIGHT);
-        let (full, svg) = (FULL * usual(&answer.behind), String::new());
-        Part { answer, options, rollup, figures, full, top, low, high, panels, left, x, svg }
+        let (reach, panels) = (answer.settled.reach, vec![above, below]);
+        let canvas = Canvas::new(&answer.series, reach, (low, high), panels);
+        let full = FULL * usual(&answer.behind);
+        Part { canvas, answer, options, rollup, figures, full }
     }
 
     /// Whether a figure is of far fewer readings than the others.
@@ -85,30 +62,20 @@ impl<'a> Part<'a> {
         f64::from(self.answer.behind[place]) < self.full
     }
 
-    pub fn put(&mut self, element: std::fmt::Arguments) {
-        self.svg.write_fmt(element).and_then(|()| self.svg.write_char('\n')).expect("a string");
-    }
-
-    pub fn text(&mut self, x: f64, y: f64, attributes: &str, text: &str) {
-        let text = visible(text).replace('&', "&amp;").replace('<', "&lt;").replace('>', "&gt;");
-        self.put(format_args!("<text x=\"{x}\" y=\"{y}\" {attributes}>{text}</text>"));
-    }
-
     pub fn draw(mut self) -> String {
-        self.text(self.left, self.top + 22.0, "class=\"title\"", &self.title());
-        self.gaps();
-        self.times();
-        let unit = &self.options.unit;
-        let label = if unit.is_empty() { "readings".into() } else { format!("readings, {unit}") };
-        self.frame(0, &label);
-        self.readings();
+        let unit = &self.options.common.unit;
+        self.canvas.title(&self.title());
+        self.canvas.gaps();
+        self.canvas.times(&self.legend());
+        self.canvas.frame_readings(unit);
+        self.canvas.readings();
         let label = match unit_of(self.options.pre, self.rollup, unit) {
             unit if unit.is_empty() => self.rollup.to_string(),
             unit => format!("{}, {unit}", self.rollup),
         };
-        self.frame(1, &label);
+        self.canvas.frame(1, &label);
         self.figures();
-        self.svg
+        self.canvas.svg
     }
 
     /// The series, the rollup and the step that prepares its values, the window and the grid.
@@ -126,54 +93,15 @@ impl<'a> Part<'a> {
         )
     }
 
-    /// The frame of a panel with its marks and its label.
-    fn frame(&mut self, panel: usize, label: &str) {
-        let left = self.left;
-        let Panel { top, bottom, ref marks, .. } = self.panels[panel];
-        for (place, text) in marks.clone() {
-            self.put(format_args!("<path class=\"mark\" d=\"M{left} {place}H{RIGHT}\"/>"));
-            self.text(left - SPACE, place + 4.0, "text-anchor=\"end\"", &text);
-        }
-        let (width, height) = (RIGHT - left, bottom - top);
-        self.put(format_args!(
-            "<rect class=\"frame\" x=\"{left}\" y=\"{top}\" width=\"{width}\" height=\"{height}\"/>"
-        ));
-        let middle = (top + bottom) / 2.0;
-        let turned = format!("text-anchor=\"middle\" transform=\"rotate(-90 16 {middle})\"");
-        self.text(16.0, middle, &turned, label);
-    }
-
-    /// Round times: lines through both panels, and their text below.
-    fn times(&mut self) {
-        let bottom = self.panels[1].bottom;
-        for (time, text) in axis::times(self.low, self.high, 8) {
-            let x = self.x.place(time as f64);
-            for (top, bottom) in self.heights() {
-                self.put(format_args!("<path class=\"mark\" d=\"M{x} {top}V{bottom}\"/>"));
-            }
-            self.text(x, bottom + 16.0, "text-anchor=\"middle\"", &text);
-        }
-        self.text(RIGHT, bottom + 32.0, "text-anchor=\"end\" class=\"note\"", "time, UTC");
+    fn legend(&self) -> String {
         let legend = match self.figures.len() {
             0..=SINGLE => {
                 "bar: a figure along its window, dashed if of few readings; dot: its output time; "
             }
             _ => "line: the figures, pale if of few readings; ",
         };
-        let legend = format!("{legend}tick at the bottom: no figure");
-        self.text(self.left, bottom + 32.0, "class=\"note\"", &legend);
+        format!("{legend}tick at the bottom: no figure")
     }
-
-    /// The top and the bottom of each panel.
-    pub fn heights(&self) -> [(f64, f64); 2] {
-        self.panels.each_ref().map(|panel| (panel.top, panel.bottom))
-    }
-}
-
-/// The readings from one time to another.
-pub fn shown(times: &[i64], low: i64, high: i64) -> Range<usize> {
-    let first = times.partition_point(|time| *time < low);
-    first..times.partition_point(|time| *time <= high)
 }
 
 /// The median of how many readings the windows have that have any.

@@ -15,11 +15,11 @@ pub fn all(answers: &[Answer], options: &Options, out: &mut impl Write) -> io::R
     let keys: Vec<String> = options.rollups.iter().map(|r| quoted(&r.to_string())).collect();
     for answer in answers {
         let name = quoted(answer.name());
-        let form = options.times.unwrap_or(answer.series.form);
+        let form = options.common.form(&answer.series);
         for place in 0..answer.points() {
             write!(out, "{{\"name\":{name},\"time\":{}", time(answer.time(place), form))?;
             for (key, figures) in keys.iter().zip(&answer.figures) {
-                write!(out, ",{key}:{}", number(figures[place], options.decimals))?;
+                write!(out, ",{key}:{}", number(figures[place], options.common.decimals))?;
             }
             writeln!(out, ",\"{READINGS}\":{}}}", answer.behind[place])?;
         }
@@ -28,7 +28,7 @@ pub fn all(answers: &[Answer], options: &Options, out: &mut impl Write) -> io::R
 }
 
 /// Milliseconds are a number, all else is a text.
-fn time(millis: i64, form: Form) -> String {
+pub fn time(millis: i64, form: Form) -> String {
     let text = Stamp(millis, form).to_string();
     if text.bytes().all(|byte| byte == b'-' || byte.is_ascii_digit()) {
         text
@@ -38,7 +38,7 @@ fn time(millis: i64, form: Form) -> String {
 }
 
 /// No figure is null. JSON has no infinity, but numbers that are read as one.
-fn number(figure: f64, decimals: Option<usize>) -> String {
+pub fn number(figure: f64, decimals: Option<usize>) -> String {
     match figure {
         _ if figure.is_nan() => "null".into(),
         f64::INFINITY => "1e999".into(),
@@ -48,7 +48,7 @@ fn number(figure: f64, decimals: Option<usize>) -> String {
 }
 
 /// A text of JSON, with escapes also for what cannot be seen.
-fn quoted(text: &str) -> String {
+pub fn quoted(text: &str) -> String {
     let mut json = String::from("\"");
     for letter in text.chars() {
         match letter {

@@ -1,33 +1,45 @@
-//! Figures as CSV, as JSON or as tables of text.
+//! Figures, and what is found in series, as CSV, as JSON or as tables of text.
 
 mod csv;
 mod json;
+pub mod rows;
 mod table;
 
 use std::fmt;
-use std::io::{self, Write};
+use std::io;
 
 use crate::answer::Answer;
 use crate::failure::Failure;
 use crate::files::Files;
-use crate::options::{Format, Options};
-use crate::output::output;
+use crate::options::{Common, Format, Options};
+use crate::output::{Out, output};
+use crate::series::Series;
 pub use table::table;
 
 /// Writes the figures where the options say.
 pub fn figures(answers: &[Answer], options: &Options, files: &mut Files) -> Result<(), Failure> {
-    match &options.output {
-        Some(path) => files.write(path, |out| all(answers, options, out)),
-        None => output(|out| all(answers, options, out)),
-    }
-}
-
-fn all(answers: &[Answer], options: &Options, out: &mut impl Write) -> io::Result<()> {
-    match options.format {
+    write(&options.common, files, |out| match options.common.format {
         Format::Csv => csv::all(answers, options, out),
         Format::Json => json::all(answers, options, out),
         Format::Text => answers.iter().try_for_each(|answer| table(answer, options, out)),
+    })
+}
+
+/// Writes to the file of the output, or else to standard output.
+pub fn write(
+    common: &Common,
+    files: &mut Files,
+    fill: impl FnOnce(&mut Out) -> io::Result<()>,
+) -> Result<(), Failure> {
+    match &common.output {
+        Some(path) => files.write(path, fill),
+        None => output(fill),
     }
+}
+
+/// Whether names stand before what CSV has: where there are several series, or a file has them.
+pub fn is_named<'a>(mut all: impl ExactSizeIterator<Item = &'a Series>) -> bool {
+    all.len() > 1 || all.any(|series| series.name.is_some())
 }
 
 /// A number with so many digits after the point, or else as the shortest text that reads back to the

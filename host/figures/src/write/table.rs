@@ -12,15 +12,14 @@ use crate::time::{Stamp, format_duration};
 /// A table of a series: a line about it, a header, and under it the times, the figures and how many
 /// readings each figure is of.
 pub fn table(answer: &Answer, options: &Options, out: &mut impl Write) -> io::Result<()> {
-    let form = options.times.unwrap_or(answer.series.form);
-    let places = 0..answer.points();
-    let stamp = |place: usize| Stamp(answer.time(place), form).to_string();
-    let mut columns = vec![column("time", places.clone().map(stamp))];
+    let form = options.common.form(&answer.series);
+    let stamp = |place| Stamp(answer.time(place), form).to_string();
+    let mut columns = vec![left("time", (0..answer.points()).map(stamp).collect())];
     for (rollup, figures) in options.rollups.iter().zip(&answer.figures) {
-        let numbers = figures.iter().map(|figure| Number(*figure, options.decimals).to_string());
-        columns.push(column(&rollup.to_string(), numbers));
+        let number = |figure: &f64| Number(*figure, options.common.decimals).to_string();
+        columns.push(right(&rollup.to_string(), figures.iter().map(number).collect()));
     }
-    columns.push(column(READINGS, answer.behind.iter().map(|count| count.to_string())));
+    columns.push(right(READINGS, answer.behind.iter().map(u32::to_string).collect()));
     writeln!(
         out,
         "{}: {} readings, prepared by {}, windows of {}",
@@ -29,19 +28,31 @@ pub fn table(answer: &Answer, options: &Options, out: &mut impl Write) -> io::Re
         options.pre,
         format_duration(answer.settled.window),
     )?;
-    for row in 0..=places.end {
-        let (width, times) = &columns[0];
-        write!(out, "{:width$}", times[row])?;
-        for (width, cells) in &columns[1..] {
-            write!(out, "  {:>width$}", cells[row])?;
-        }
-        writeln!(out)?;
-    }
+    lines(&columns, out)?;
     writeln!(out)
 }
 
-/// A column with its header, and its width.
-fn column(header: &str, cells: impl Iterator<Item = String>) -> (usize, Vec<String>) {
-    let cells: Vec<String> = [header.to_string()].into_iter().chain(cells).collect();
-    (cells.iter().map(String::len).max().unwrap_or(0), cells)
+/// A column under its header, each cell as wide as the widest, with its text at the left.
+pub fn left(header: &str, cells: Vec<String>) -> Vec<String> {
+    column(header, cells, |cell, width| format!("{cell:width$}"))
+}
+
+/// The same with the text at the right.
+pub fn right(header: &str, cells: Vec<String>) -> Vec<String> {
+    column(header, cells, |cell, width| format!("{cell:>width$}"))
+}
+
+fn column(header: &str, cells: Vec<String>, fill: fn(&str, usize) -> String) -> Vec<String> {
+    let cells = || [header].into_iter().chain(cells.iter().map(String::as_str));
+    let width = cells().map(|cell| cell.chars().count()).max().unwrap_or(0);
+    cells().map(|cell| fill(cell, width)).collect()
+}
+
+/// The lines of columns beside one another.
+pub fn lines(columns: &[Vec<String>], out: &mut impl Write) -> io::Result<()> {
+    for row in 0..columns.first().map_or(0, Vec::len) {
+        let cells: Vec<&str> = columns.iter().map(|column| column[row].as_str()).collect();
+        writeln!(out, "{}", cells.join("  "))?;
+    }
+    Ok(())
 }
