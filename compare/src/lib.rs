@@ -1,5 +1,6 @@
 //! The Rust as the judge of the port: what it answers, generated inputs, the fixed lists for the
-//! gate, and the comparison with the exported functions.
+//! gate, and the comparison with the exported functions. Of what the Rust does not have, the judge is
+//! a model.
 
 pub mod arguments;
 pub mod call;
@@ -7,7 +8,9 @@ pub mod cuts;
 pub mod inputs;
 pub mod judge;
 pub mod lists;
+pub mod model;
 pub mod oracle;
+pub mod plain;
 pub mod port;
 pub mod rng;
 pub mod rows;

@@ -1,8 +1,8 @@
-//! The outcome of a call as the Rust and docs/REFUSALS.md have it.
+//! The outcome of a call as the Rust, or the model, and docs/REFUSALS.md have it.
 
 use crate::call::{Call, Case, Outcome};
 use crate::words::all_bits;
-use crate::{judge, rows};
+use crate::{judge, model, rows};
 
 pub fn outcome(call: Call, case: &Case) -> Outcome {
     let mut outcome = Outcome::before(case);
@@ -17,6 +17,14 @@ pub fn outcome(call: Call, case: &Case) -> Outcome {
             outcome.points = rows::points(case);
         }
         Call::Run | Call::SettledRun => run(call, case, &mut outcome),
+        Call::Crossings => {
+            outcome.count = model::count(&case.values, case.limit);
+            write(&mut outcome.indexes, &model::crossings(&case.values, case.limit));
+        }
+        Call::Nearest => {
+            let nearest = model::nearest(&case.timestamps, case.time);
+            (outcome.found, outcome.nearest) = nearest.map_or((0, 0), |i| (1, i as u64));
+        }
     }
     outcome
 }

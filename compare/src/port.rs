@@ -16,18 +16,25 @@ pub fn has(call: Call) -> bool {
         Call::Settle => cfg!(port_settle),
         Call::Run => cfg!(port_run),
         Call::SettledRun => cfg!(port_settled_run),
+        Call::Crossings => cfg!(port_crossings),
+        Call::Nearest => cfg!(port_nearest),
     }
 }
 
 /// The outcome of a call that the archive has.
 pub fn outcome(call: Call, case: &Case) -> Outcome {
     let mut o = Outcome::before(case);
-    let Case { timestamps, values, pre, .. } = case;
+    let Case { timestamps, values, pre, limit, time, .. } = case;
     o.number = match call {
         Call::Prepare => prepare(timestamps, values, *pre, &mut o.prepared, &mut o.index),
         Call::Settle => settle(case, &mut o),
         Call::Run => run(case, &mut o),
         Call::SettledRun => settled_run(case, &mut o),
+        Call::Crossings => {
+            let indexes = &mut o.indexes[..case.lent];
+            crossings(timestamps, values, *limit, indexes, &mut o.count, &mut o.index)
+        }
+        Call::Nearest => nearest(timestamps, *time, &mut o.found, &mut o.nearest, &mut o.index),
     };
     o
 }
@@ -133,4 +140,34 @@ fn settled_run(case: &Case, o: &mut Outcome) -> u64 {
         )
     };
     panic!("the archive does not have harzoulin_settled_run")
+}
+
+pub fn crossings(
+    timestamps: &[i64],
+    values: &[impl Pattern],
+    limit: f64,
+    indexes: &mut [u64],
+    count: &mut u64,
+    index: &mut u64,
+) -> u64 {
+    let (times, values) = (Times::of(timestamps), Values::of(values));
+    let indexes = Indexes::of(indexes);
+    #[cfg(port_crossings)]
+    return unsafe {
+        ask!(harzoulin_crossings, [times, values], [limit], [indexes], [*count, *index])
+    };
+    panic!("the archive does not have harzoulin_crossings")
+}
+
+pub fn nearest(
+    timestamps: &[i64],
+    time: i64,
+    found: &mut u64,
+    nearest: &mut u64,
+    index: &mut u64,
+) -> u64 {
+    let times = Times::of(timestamps);
+    #[cfg(port_nearest)]
+    return unsafe { ask!(harzoulin_nearest, [times], [time], [], [*found, *nearest, *index]) };
+    panic!("the archive does not have harzoulin_nearest")
 }

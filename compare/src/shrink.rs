@@ -6,8 +6,15 @@ type Change = Box<dyn Fn(&Case) -> Case>;
 
 const ROUNDS: usize = 12;
 
-/// The case after every change under which it still fails, gone through some times.
+/// With more readings than these every try takes long, and where no shorter case fails the length matters.
+const LONG: usize = 1_000_000;
+
+/// The case after every change under which it still fails, gone through some times. A long case is
+/// left as it is.
 pub fn shrink(mut case: Case, fails: impl Fn(&Case) -> bool) -> Case {
+    if case.timestamps.len() > LONG {
+        return case;
+    }
     for _ in 0..ROUNDS {
         for change in changes(&case) {
             let smaller = change(&case);
@@ -66,7 +73,7 @@ fn change(edit: fn(&mut Case)) -> Change {
 }
 
 fn plainer_settings() -> Vec<Change> {
-    let edits: [fn(&mut Case); 14] = [
+    let edits: [fn(&mut Case); 18] = [
         |c| c.settings.end = c.settings.start,
         |c| c.settings.start = c.settings.start.saturating_add(c.settings.step),
         |c| c.settings.end = c.settings.end.saturating_sub(c.settings.step),
@@ -81,20 +88,27 @@ fn plainer_settings() -> Vec<Change> {
         |c| c.settings.samples_scanned_per_call = 0,
         |c| (c.first, c.second) = (0.5, 0.5),
         |c| c.pre = 0,
+        |c| c.limit = c.limit.round(),
+        |c| c.limit = 1.0,
+        |c| c.limit = 0.0,
+        |c| c.time = 0,
     ];
     edits.into_iter().map(change).collect()
 }
 
 fn shorter_slices() -> Vec<Change> {
-    let edits: [fn(&mut Case); 4] = [
+    let edits: [fn(&mut Case); 6] = [
         |c| shorten(&mut c.dst_values),
         |c| shorten(&mut c.prepared),
         |c| shorten(&mut c.work),
+        |c| c.lent /= 2,
+        |c| c.lent = c.lent.saturating_sub(1),
         |c| {
             let first = c.timestamps.first().copied().unwrap_or(0);
             c.timestamps.iter_mut().for_each(|t| *t = t.saturating_sub(first));
             c.settings.start = c.settings.start.saturating_sub(first);
             c.settings.end = c.settings.end.saturating_sub(first);
+            c.time = c.time.saturating_sub(first);
         },
     ];
     edits.into_iter().map(change).collect()

@@ -6,15 +6,17 @@
 //! `bench run [READINGS]`: the port's run of each rollup beside the Rust's `do_internal`, over a few
 //! long windows and over many short ones. The Rust is charged with checks, copy and clearing.
 //! `bench growth [READINGS]`: nanoseconds a reading of some runs, from 10,000 readings up to so many.
+//! `bench crossings [READINGS]`, `bench nearest [READINGS]`: the port's call beside the plain loops of
+//! `plain`, which check the same rows. `ratio` is the port's time over the Rust's.
 
 use std::process::exit;
 use std::time::Instant;
 
-use compare::call::{Call, Case, Outcome};
+use compare::call::{Call, Case, Outcome, UNSET};
 use compare::inputs::cases::average;
 use compare::inputs::series::{counter, KINDS};
 use compare::judge::{self, STEPS};
-use compare::port;
+use compare::{plain, port};
 use original::exposed::{self, Rollup, Settings, ROLLUPS};
 
 const ROUNDS: usize = 7;
@@ -34,6 +36,10 @@ fn main() {
         Some("prepare") if port::has(Call::Prepare) => prepare(readings.unwrap_or(15_800_000)),
         Some("run") if port::has(Call::Run) => run(readings.unwrap_or(1_000_000)),
         Some("growth") if port::has(Call::Run) => growth(readings.unwrap_or(16_000_000)),
+        Some("crossings") if port::has(Call::Crossings) => {
+            crossings(readings.unwrap_or(15_800_000))
+        }
+        Some("nearest") if port::has(Call::Nearest) => nearest(readings.unwrap_or(15_800_000)),
         _ => usage(),
     }
 }
@@ -200,6 +206,69 @@ fn growth(most: usize) {
     }
 }
 
+/// On each series a limit with about half of the readings below it, and one near the greatest value.
+fn crossings(readings: usize) {
+    let ranks =
+        [("the median", readings / 2), ("near the top", readings - 1 - readings / 1_000_000)];
+    head(readings, "series | limit | crossings");
+    for (title, make) in KINDS {
+        let (timestamps, values) = make(readings);
+        let (mut ours, mut theirs) = (vec![UNSET; readings], vec![UNSET; readings]);
+        for (name, rank) in ranks {
+            let limit = *values.clone().select_nth_unstable_by(rank, f64::total_cmp).1;
+            let (mut number, mut count, mut index, mut plainly) = (1, 0, 1, Err((1, 0)));
+            let times = both(
+                || {
+                    let (slice, count) = (&mut ours, &mut count);
+                    number = port::crossings(&timestamps, &values, limit, slice, count, &mut index);
+                },
+                || plainly = plain::crossings(&timestamps, &values, limit, &mut theirs),
+            );
+            assert_eq!((number, index, Ok(count)), (0, 0, plainly));
+            assert!(ours == theirs);
+            line(&format!("{title} | {name} | {count}"), times);
+        }
+    }
+}
+
+/// A time before all readings, one between them and one behind them.
+fn nearest(readings: usize) {
+    let (timestamps, _) = counter(readings);
+    let (first, last) = (timestamps[0], timestamps[readings - 1]);
+    head(readings, "asked time | nearest");
+    let asked = [("before all", first - 1), ("amid", (first + last) / 2), ("behind all", last + 1)];
+    for (name, time) in asked {
+        let (mut number, mut found, mut nearest, mut index) = (1, 0, 0, 1);
+        let mut plainly = Err((1, 0));
+        let times = both(
+            || number = port::nearest(&timestamps, time, &mut found, &mut nearest, &mut index),
+            || plainly = plain::nearest(&timestamps, time),
+        );
+        assert_eq!((number, found, index, Ok(Some(nearest))), (0, 1, 0, plainly));
+        line(&format!("{name} | {nearest}"), times);
+    }
+}
+
+/// The head of a table with the port's time beside the plain loops'.
+fn head(readings: usize, columns: &str) {
+    println!("{readings} readings, milliseconds a call, best of {ROUNDS}\n");
+    println!("| {columns} | port | Rust | ratio |");
+    println!("|{}", "---|".repeat(columns.split('|').count() + 3));
+}
+
+fn line(cells: &str, (port, rust): (f64, f64)) {
+    println!("| {cells} | {port:.2} | {rust:.2} | {:.2} |", port / rust);
+}
+
+/// The best times of two calls that take turns.
+fn both(mut port: impl FnMut(), mut rust: impl FnMut()) -> (f64, f64) {
+    let mut times = (f64::INFINITY, f64::INFINITY);
+    for _ in 0..ROUNDS {
+        times = (times.0.min(ms(&mut port)), times.1.min(ms(&mut rust)));
+    }
+    times
+}
+
 /// The best time of the port's run, which is accepted.
 fn port_ms(case: &Case, outcome: &mut Outcome) -> f64 {
     best(|| ms(|| assert_eq!(port::run(case, outcome), 0)))
@@ -223,6 +292,8 @@ fn best(mut round: impl FnMut() -> f64) -> f64 {
 }
 
 fn usage() -> ! {
-    eprintln!("bench prepare|run|growth [READINGS], with an archive that has the call");
+    eprintln!(
+        "bench prepare|run|growth|crossings|nearest [READINGS], with an archive that has the call"
+    );
     exit(2)
 }

@@ -1,6 +1,7 @@
-//! `differ WHAT --cases N --seed S` compares the port with the Rust on N generated calls; WHAT is
-//! prepare, settle, run or settled_run, or cuts: accepted runs with the settled runs that they are
-//! cut into, or all (what the archive has the functions for).
+//! `differ WHAT --cases N --seed S` compares the port with its judge on N generated calls; WHAT is
+//! prepare, settle, run or settled_run, which the Rust judges, crossings or nearest, which the model
+//! judges, or cuts: accepted runs with the settled runs that they are cut into, or all (what the
+//! archive has the functions for).
 
 use std::collections::BTreeMap;
 use std::process::exit;
@@ -43,10 +44,10 @@ impl What {
     }
 
     /// The cases that come before the generated ones.
-    fn stated(self) -> Vec<Generated> {
+    fn stated(self) -> Box<dyn Iterator<Item = Generated>> {
         match self {
-            What::One(call) => cases::longest().map(|case| (call, case, 0)).collect(),
-            What::Cuts => vec![],
+            What::One(call) => Box::new(cases::longest(call).map(move |case| (call, case, 0))),
+            What::Cuts => Box::new([].into_iter()),
         }
     }
 
@@ -86,34 +87,37 @@ fn main() {
 fn compare(name: &str, what: What, cases: u64, seed: u64) -> u64 {
     let mut rng = Rng::new(seed);
     let mut agreed = BTreeMap::new();
-    let mut first: Option<Generated> = None;
+    let mut shortest: Option<Generated> = None;
     let mut bad = 0;
     let generated = (0..cases).map(|_| what.generated(&mut rng));
-    for (call, case, seed) in what.stated().into_iter().chain(generated).take(cases as usize) {
+    for (call, case, seed) in what.stated().chain(generated).take(cases as usize) {
         match what.disagreement(call, &case, seed) {
             Ok(number) => *agreed.entry(number).or_insert(0) += 1,
             Err(_) => {
                 bad += 1;
-                first.get_or_insert((call, case, seed));
+                let readings = case.timestamps.len();
+                if shortest.as_ref().is_none_or(|(_, kept, _)| readings < kept.timestamps.len()) {
+                    shortest = Some((call, case, seed));
+                }
             }
         }
     }
     println!("{name}: {cases} cases from seed {seed}, {bad} disagreements");
     let rows: Vec<String> = agreed.iter().map(|(number, n)| format!("{number}: {n}")).collect();
     println!("  agreed, by {}: {}", what.counted(), rows.join(", "));
-    if let Some((call, case, seed)) = first {
+    if let Some((call, case, seed)) = shortest {
         let differs = |case: &Case| what.disagreement(call, case, seed);
         let case = shrink::shrink(case, |case| differs(case).is_err());
-        println!("  the first, made small:\n{case}\n  {}", differs(&case).unwrap_err());
+        println!("  the shortest, made small:\n{case}\n  {}", differs(&case).unwrap_err());
     }
     bad
 }
 
-/// The number that both give, or what differs. A panic of the Rust is a disagreement.
+/// The number that both give, or what differs. A panic of the judge is a disagreement.
 fn disagreement(call: Call, case: &Case) -> Result<u64, String> {
     let ours = port::outcome(call, case);
     let Some(theirs) = judge::caught(|| oracle::outcome(call, case)) else {
-        return Err("the Rust panics".to_string());
+        return Err("the judge panics".to_string());
     };
     match ours.against(&theirs)[..] {
         [] => Ok(ours.number),

@@ -1,6 +1,6 @@
 //! `sizes` calls the port with long series and grids: thirty years of a reading a minute under each
 //! rollup, as many readings and output times as are accepted, and one more. What is accepted is held
-//! to the Rust, what is refused to the number of docs/REFUSALS.md.
+//! to the Rust or the model, what is refused to the number of docs/REFUSALS.md.
 
 use std::process::exit;
 
@@ -50,7 +50,14 @@ fn main() {
     drop((years, days));
 
     for (readings, number) in [(MOST, 0), (MOST + 1, 2)] {
-        let series = average(&counter(readings), minutes(1000));
+        let lent = readings;
+        let series = Case {
+            limit: 200_000.0,
+            indexes: vec![UNSET; lent],
+            lent,
+            time: 1 << 40,
+            ..average(&counter(readings), minutes(1000))
+        };
         for (name, call) in Call::ALL {
             tally.call(call, &series, number, name);
         }
@@ -80,7 +87,7 @@ struct Tally {
 }
 
 impl Tally {
-    /// Makes a call, which must be accepted (0) or refused with this number, as the Rust and the
+    /// Makes a call, which must be accepted (0) or refused with this number, as the judge and the
     /// table have it.
     fn call(&mut self, call: Call, case: &Case, number: u64, what: &str) {
         let ours = port::outcome(call, case);
@@ -90,7 +97,7 @@ impl Tally {
             lines.push(format!("number: port {}, table {number}", ours.number));
         }
         let found = match (&lines[..], number) {
-            ([], 0) => "accepted, as the Rust answers".to_string(),
+            ([], 0) => "accepted, as the judge answers".to_string(),
             ([], _) => format!("refused {number}, nothing written"),
             _ => lines.join("; "),
         };

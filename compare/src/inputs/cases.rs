@@ -4,14 +4,23 @@
 use original::exposed::Settings;
 
 use super::series::TIME_LIMIT;
-use super::{floats, series, settings};
+use super::{crossings, floats, nearest, series, settings};
 use crate::call::{Call, Case, UNSET};
 use crate::rng::Rng;
 use crate::{judge, rows};
 
-const MOST: i64 = rows::MOST as i64;
+pub(super) const MOST: i64 = rows::MOST as i64;
 
 pub fn case(rng: &mut Rng, call: Call) -> Case {
+    match call {
+        Call::Crossings => crossings::case(rng),
+        Call::Nearest => nearest::case(rng),
+        _ => of_the_rust(rng, call),
+    }
+}
+
+/// A call that the Rust judges.
+fn of_the_rust(rng: &mut Rng, call: Call) -> Case {
     let mut case = accepted(rng, call);
     let spoils = rng.pick(&[0, 0, 0, 1, 1, 2]);
     for _ in 0..spoils {
@@ -20,7 +29,7 @@ pub fn case(rng: &mut Rng, call: Call) -> Case {
     case
 }
 
-/// A call that is accepted.
+/// A call that the Rust judges and that is accepted.
 pub fn accepted(rng: &mut Rng, call: Call) -> Case {
     let n = series::length(rng);
     let (timestamps, values) = series::series(rng, n);
@@ -34,10 +43,7 @@ pub fn accepted(rng: &mut Rng, call: Call) -> Case {
         first: floats::parameter(rng),
         second: floats::parameter(rng),
         settings,
-        reach: 0,
-        dst_values: vec![],
-        prepared: vec![],
-        work: vec![],
+        ..Case::default()
     };
     if call == Call::SettledRun {
         settled(rng, &mut case);
@@ -49,8 +55,17 @@ pub fn accepted(rng: &mut Rng, call: Call) -> Case {
     case
 }
 
-/// As many readings as are allowed, and one more, with no slice lent.
-pub fn longest() -> impl Iterator<Item = Case> {
+/// As many readings as are allowed, and one more, one case at a time: each takes hundreds of megabytes.
+pub fn longest(call: Call) -> Box<dyn Iterator<Item = Case>> {
+    match call {
+        Call::Crossings => Box::new(crossings::longest()),
+        Call::Nearest => Box::new(nearest::longest()),
+        _ => Box::new(longest_of_the_rust()),
+    }
+}
+
+/// With no slice lent.
+fn longest_of_the_rust() -> impl Iterator<Item = Case> {
     [MOST, MOST + 1].into_iter().map(|n| Case {
         timestamps: (0..n).collect(),
         values: vec![0; n as usize],
@@ -60,9 +75,7 @@ pub fn longest() -> impl Iterator<Item = Case> {
         second: 0.5,
         settings: Settings { step: 1, window: 1, ..Settings::default() },
         reach: 1,
-        dst_values: vec![],
-        prepared: vec![],
-        work: vec![],
+        ..Case::default()
     })
 }
 
@@ -78,9 +91,9 @@ pub fn average((timestamps, values): &(Vec<i64>, Vec<f64>), settings: Settings) 
         second: 0.5,
         settings,
         reach: 300_000,
-        dst_values: vec![],
         prepared: vec![UNSET; readings + 1],
         work: vec![UNSET; 2 * readings + 1],
+        ..Case::default()
     };
     case.dst_values = vec![UNSET; rows::points(&case) as usize + 1];
     case
@@ -133,15 +146,17 @@ fn spoil(rng: &mut Rng, call: Call, case: &mut Case) {
 }
 
 /// An end of the range, the number beyond it, or one far outside.
-fn outside(rng: &mut Rng, low: i64, high: i64) -> i64 {
+pub(super) fn outside(rng: &mut Rng, low: i64, high: i64) -> i64 {
     rng.pick(&[low, high, low - 1, low - 1, high + 1, high + 1, i64::MIN, i64::MAX])
 }
 
-fn not_above(rng: &mut Rng, time: i64) -> i64 {
+/// No later than this time.
+pub(super) fn not_above(rng: &mut Rng, time: i64) -> i64 {
     time.saturating_sub(rng.pick(&[0, 0, 1, 1000]))
 }
 
-fn not_finite(rng: &mut Rng) -> u64 {
+/// An infinity or a NaN.
+pub(super) fn not_finite(rng: &mut Rng) -> u64 {
     let infinities = [f64::INFINITY.to_bits(), f64::NEG_INFINITY.to_bits()];
     rng.pick(&[&floats::NANS[..], &infinities].concat())
 }

@@ -1,6 +1,8 @@
 //! Generated inputs: values with the corners of binary64, series of readings, grids and settings.
 
 pub mod cases;
+pub mod crossings;
 pub mod floats;
+pub mod nearest;
 pub mod series;
 pub mod settings;
