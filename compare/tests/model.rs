@@ -171,13 +171,16 @@ fn every_two_rows_are_offended() {
     assert_eq!(pairs(Call::Nearest), [[3, 4]].into());
 }
 
+/// Generated calls that are accepted.
+fn accepted(call: Call) -> Vec<Case> {
+    let mut rng = Rng::new(1);
+    let cases = (0..20_000).map(|_| cases::case(&mut rng, call));
+    cases.filter(|case| rows::refusal(call, case).is_none()).collect()
+}
+
 #[test]
 fn ties_and_corners_are_asked() {
-    let mut rng = Rng::new(1);
-    let accepted: Vec<Case> = (0..20_000)
-        .map(|_| cases::case(&mut rng, Call::Nearest))
-        .filter(|case| rows::refusal(Call::Nearest, case).is_none())
-        .collect();
+    let accepted = accepted(Call::Nearest);
     let tie = |case: &Case| {
         let distance = |t: &i64| t.abs_diff(case.time);
         let least = case.timestamps.iter().map(distance).min();
@@ -193,11 +196,7 @@ fn ties_and_corners_are_asked() {
 
 #[test]
 fn limits_at_values_are_asked() {
-    let mut rng = Rng::new(1);
-    let accepted: Vec<Case> = (0..20_000)
-        .map(|_| cases::case(&mut rng, Call::Crossings))
-        .filter(|case| rows::refusal(Call::Crossings, case).is_none())
-        .collect();
+    let accepted = accepted(Call::Crossings);
     let many = |is: &dyn Fn(&Case) -> bool| accepted.iter().filter(|c| is(c)).count() > 100;
     let any = |case: &Case, is: fn(f64, f64) -> bool| {
         case.values.iter().any(|bits| is(f64::from_bits(*bits), case.limit))

@@ -112,6 +112,10 @@ module _ (t : ℤ) where
   nearest-reading [] i n = absurd (omega (arith, n .within))
   nearest-reading (u ∷ us) i n = ap some (sym (nearest-only (u ∷ us) i n))
 
+  -- none if the series is empty, and only then
+  pub empty-none : nearestReading t [] ≡ none
+  empty-none = refl
+
   pub none-empty : (ts : List ℤ) → nearestReading t ts ≡ none → ts ≡ []
   none-empty [] e = refl
   none-empty (u ∷ us) e = absurd (let clash : _≡_ {A = ℕ} 0 1 = cc in omega arith)
