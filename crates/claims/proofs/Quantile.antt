@@ -21,13 +21,14 @@ use Rattle.ieee.specs.Value.{floorOf, negative}
 use Rattle.ieee.proofs.Exact.{count-exact, value-number}
 use Rattle.ieee.proofs.Order.{eq-rank, lt-rank}
 use Rattle.ieee.proofs.Patterns.{same-if-number}
+use Rattle.ieee.proofs.Unrounded.{difference-of-equals, plus-zero, product, times-one, times-zero, zero-times}
 use Rattle.order.specs.Order.{lessOf}
 use Rattle.quantile.specs.Quantile.{atRank, between, medianOf, quantileOf, quantileSorted, rankOf}
 use Rattle.order.specs.Sort.{All}
 use Rattle.ieee.specs.Patterns.{floats}
 use Rattle.sort.specs.Values.{kept}
 use Rattle.order.specs.declared.Order.the-variants.{Partial}
-use Rattle.quantile.proofs.Exact.{Whole, difference-of-equals, plus-zero, product, times-one, times-zero, whole, zero-times}
+use Rattle.quantile.proofs.Exact.{Whole, whole}
 use Rattle.sort.proofs.Kept.{all-kept, kept-numbers}
 use Rattle.order.proofs.Keys.{Keyed, all-keyed, keyed-sorted}
 use Rattle.order.proofs.Sorted.{InOrder, sorted-in-order, sorted-permutes}

@@ -5,6 +5,8 @@ pub mod Exact
 pub mod Numbers
 pub mod Rank
 pub mod Units
+pub mod Unrounded
+pub mod Differences
 pub mod Order
 pub mod Whole
 pub mod Floors

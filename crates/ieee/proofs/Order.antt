@@ -221,6 +221,11 @@ not-le-not-lt x y h = split (lt x y) h
     split true e = e
     split false e = refl
 
+pub le-not-lt : (x y : Float) → T (fits binary64 x) → T (fits binary64 y) → le x y ≡ true → lt y x ≡ false
+le-not-lt x y f g h =
+    let n = le-numbers x y h in
+    lt-rank y x g f (n .1) (n .0) ∙ le-ltb (rank y) (rank x) (leb-true (rank x) (rank y) (sym (le-rank x y f g (n .0) (n .1)) ∙ h))
+
 pub lt-le-trans : (x y z : Float) → T (fits binary64 x) → T (fits binary64 y) → T (fits binary64 z) → lt x y ≡ true → le y z ≡ true → lt x z ≡ true
 lt-le-trans x y z f g k a b =
     let n = lt-numbers x y a in
