@@ -26,13 +26,16 @@
 extern "C" {
 #endif
 
-/* The preparing steps, for pre. */
+/* The preparing steps, for pre. Of the two that add a counter's restarts back, RESETS_ONCE corrects
+ * each restart once; RESETS, the original's, corrects it again at each later value that is still
+ * below the one before it as corrected. */
 enum harzoulin_step {
     HARZOULIN_STEP_NONE = 0,
     HARZOULIN_STEP_RESETS = 1,
     HARZOULIN_STEP_DELTA = 2,
     HARZOULIN_STEP_DERIV = 3,
-    HARZOULIN_STEP_INTERVALS = 4
+    HARZOULIN_STEP_INTERVALS = 4,
+    HARZOULIN_STEP_RESETS_ONCE = 5
 };
 
 /* The rollups of docs/ROLLUPS.md, for rollup. */

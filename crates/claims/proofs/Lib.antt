@@ -6,5 +6,6 @@ pub mod Piece
 pub mod Stretches
 pub mod Numbered
 pub mod Table
+pub mod Requested
 pub mod Quantile
 mod Examples

@@ -12,9 +12,9 @@ use lib.Ieee.Bits.{ofBits-fits, toBits-lt}
 use lib.Ieee.Fits.{add-fits, div-fits, inf-fits, sub-fits}
 use Rattle.ieee.specs.Patterns.{floats, patterns}
 use Rattle.steps.specs.declared.Counter.{Counter}
-use Rattle.steps.specs.Steps.{counterAfter, deltas, deltasFrom, derivs, derivsFrom, intervalsFrom, preparedOf, resetsFrom, secondTwice, sloped, wholeSeconds}
+use Rattle.steps.specs.Steps.{corrected, counted, deltas, deltasFrom, derivs, derivsFrom, intervalsFrom, outputsFrom, preparedOf, secondTwice, sloped, wholeSeconds}
 use Rattle.steps.specs.declared.PreFunction.{PreFunction}
-use Rattle.steps.specs.declared.PreFunction.the-variants.{None, Resets, Delta, Deriv, Intervals}
+use Rattle.steps.specs.declared.PreFunction.the-variants.{None, Resets, Delta, Deriv, Intervals, ResetsOnce}
 use Rattle.steps.specs.declared.Slope.{Slope}
 use Rattle.series.proofs.All.{All}
 use Rattle.steps.proofs.Resets.{lifted-fits}
@@ -30,10 +30,13 @@ unfolding floats
 floats-fit [] = tt
 floats-fit (b ∷ bs) = (ofBits-fits binary64 b, floats-fit bs)
 
-resets-fit : (s : Counter) → Fits (s .output) → (vs : List Float) → All Fits (resetsFrom s vs)
-unfolding counterAfter resetsFrom
-resets-fit s f [] = tt
-resets-fit s f (v ∷ vs) = let g = lifted-fits (s .output) _ f (add-fits binary64 v (counterAfter s v .correction)) in (g, resets-fit (counterAfter s v) g vs)
+outputs-fit : (compared : Counter → Float) (s : Counter) → Fits (s .output) → (vs : List Float) → All Fits (outputsFrom (λ t v. counted (compared t) t v) s vs)
+unfolding corrected outputsFrom
+outputs-fit compared s f [] = tt
+outputs-fit compared s f (v ∷ vs) =
+    let t = counted (compared s) s v in
+    let g = lifted-fits (s .output) _ f (add-fits binary64 v (t .correction)) in
+    (g, outputs-fit compared t g vs)
 
 deltas-fit : (d p : Float) → Fits d → (vs : List Float) → All Fits (deltasFrom d p vs)
 unfolding deltasFrom
@@ -63,13 +66,14 @@ second-fits (x ∷ y ∷ ys) f = (f .1 .0, f .1)
 prepared-fit : (pre : PreFunction) (ts : List ℤ) (bs : List ℕ) → All Fits (preparedOf pre ts (floats bs))
 unfolding floats preparedOf deltas derivs
 prepared-fit None ts bs = floats-fit bs
-prepared-fit Resets ts bs = resets-fit _ (inf-fits binary64 _) (floats bs)
+prepared-fit Resets ts bs = outputs-fit (λ s. s .output) _ (inf-fits binary64 _) (floats bs)
 prepared-fit Delta ts [] = tt
 prepared-fit Delta ts (b ∷ bs) = deltas-fit (ofBits binary64 0) _ (ofBits-fits binary64 0) (floats bs)
 prepared-fit Deriv [] bs = tt
 prepared-fit Deriv (t ∷ ts) [] = tt
 prepared-fit Deriv (t ∷ ts) (b ∷ bs) = derivs-fit _ (ofBits-fits binary64 0) ts (floats bs)
 prepared-fit Intervals ts bs = second-fits (intervalsFrom nan ts) (intervals-fit nan ts)
+prepared-fit ResetsOnce ts bs = outputs-fit (λ s. s .value) _ (inf-fits binary64 _) (floats bs)
 
 -- ---- a value's pattern, where the value is no NaN
 

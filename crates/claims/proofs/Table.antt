@@ -11,7 +11,7 @@ use Rattle.quantile.specs.Quantile.{quantileOf}
 use Rattle.order.specs.Sort.{sortBy}
 use Rattle.sort.specs.Values.{kept}
 use Rattle.times.specs.Readings.{filter}
-use Rattle.steps.specs.Steps.{counterAfter, deltas, deltasFrom, derivs, derivsFrom, grown, intervalsFrom, lifted, preparedOf, resetsFrom, sloped}
+use Rattle.steps.specs.Steps.{corrected, deltas, deltasFrom, derivs, derivsFrom, grown, intervalsFrom, lifted, outputsFrom, preparedOf, sloped}
 use Rattle.time_rollups.specs.Candlestick.{candlestick, closeOf, firstCandle}
 use Rattle.rollup.specs.Eval.{evalOf}
 use Rattle.change_rollups.specs.Delta.{deltaFrom, deltaOf, firstStep, startsLow}
@@ -28,5 +28,5 @@ use Rattle.record.specs.Record.{lastIfAny}
 use Rattle.claims.specs.Table.{Case, fromSecond, table}
 
 pub table-holds : map (λ (x : Case). x .computed) table ≡ map (λ (x : Case). x .stated) table
-unfolding add div eq isNan le lt mul ne neg ofBits ofInt sub toBits toSigned toUnsigned sqrtOf absOf floorOf stdvarOf modeOf quantileOf sortBy kept filter zipWith counterAfter deltas deltasFrom derivs derivsFrom grown intervalsFrom lifted preparedOf resetsFrom sloped candlestick closeOf firstCandle deltaFrom deltaOf firstStep startsLow holtWintersOf outOfRange smoothFrom changesFrom changesPrometheusOf lagOf maxOf minOf firstOr floats isEmpty lastOr upToLast distances distancesFrom estimateOf reachOf scans lastIfAny fromSecond evalOf
+unfolding add div eq isNan le lt mul ne neg ofBits ofInt sub toBits toSigned toUnsigned sqrtOf absOf floorOf stdvarOf modeOf quantileOf sortBy kept filter zipWith corrected deltas deltasFrom derivs derivsFrom grown intervalsFrom lifted outputsFrom preparedOf sloped candlestick closeOf firstCandle deltaFrom deltaOf firstStep startsLow holtWintersOf outOfRange smoothFrom changesFrom changesPrometheusOf lagOf maxOf minOf firstOr floats isEmpty lastOr upToLast distances distancesFrom estimateOf reachOf scans lastIfAny fromSecond evalOf
 table-holds = refl

@@ -5,4 +5,5 @@ pub mod Cut
 pub mod Piece
 pub mod Numbered
 pub mod Table
+pub mod Requested
 pub mod Quantile

@@ -21,7 +21,7 @@ pub record Case : Type 0 where
 
 -- ---- values and series
 
-abbrev num : ℕ → Float
+abbrev pub num : ℕ → Float
 num k = ofInt binary64 (pos k)
 
 abbrev half : Float
@@ -51,7 +51,7 @@ rolled h xs w t = answer h (recordAt (series xs) (pos w) (pos 5000) (pos t)) ∷
 abbrev overAll : RollupHandler → List Float → List ℕ
 overAll h xs = rolled h xs 9000 9000
 
-abbrev step : PreFunction → List ℕ → List Float → List ℕ
+abbrev pub step : PreFunction → List ℕ → List Float → List ℕ
 step pre ts xs = patterns (preparedOf pre (map pos ts) xs)
 
 -- the times of the readings in a window of 1000

@@ -35,6 +35,7 @@ pub fn apply(timestamps: &[i64], values: &[u64], pre: PreFunction, prepared: &mu
         PreFunction::Delta => steps::delta_values(values, prepared),
         PreFunction::Deriv => steps::deriv_values(values, timestamps, prepared),
         PreFunction::Intervals => steps::calc_sample_intervals_pre_fn(timestamps, prepared),
+        PreFunction::ResetsOnce => steps::remove_counter_resets_once(values, prepared),
     }
 }
 

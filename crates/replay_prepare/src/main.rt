@@ -31,7 +31,7 @@ fn same(
 // The case that a text begins with.
 fn case(text: &[u8]) -> Case {
     let number = vectors::word(text, 0);
-    if number > 4 {
+    if number > 5 {
         return replay::unread();
     }
     let step = steps::step_of(number as u32);

@@ -213,7 +213,7 @@ fn replayed(text: &[u8], at: usize, n: usize, g: usize) -> bool
     requires { ⌜ (at < 4096) × (n ≤ 64) × (g ≤ 64) ⌝ }
 {
     let pre = vectors::word(text, 0);
-    if pre > 4 {
+    if pre > 5 {
         return false;
     }
     let step = steps::step_of(pre as u32);

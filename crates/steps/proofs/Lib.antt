@@ -1,2 +1,4 @@
 pub mod Resets
+pub mod Restarts
+pub mod Counting
 pub mod Prepared

@@ -22,23 +22,24 @@ use Rattle.ieee.proofs.Tests.{by-test}
 use Rattle.times.proofs.Order.{lt-le, lt-not-le, le-refl}
 use Rattle.ieee.specs.Patterns.{floats}
 use Rattle.ieee.specs.Value.{secondsOf}
-use Rattle.steps.specs.Steps.{plusZero, resetsFrom, deltasFrom, deltas, sloped, derivsFrom, derivs, wholeSeconds, intervalsFrom, secondTwice, preparedOf}
+use Rattle.steps.specs.Steps.{plusZero, outputsFrom, deltasFrom, deltas, sloped, derivsFrom, derivs, wholeSeconds, intervalsFrom, secondTwice, preparedOf}
 use Rattle.steps.specs.declared.Slope.{Slope}
 use Rattle.steps.specs.declared.PreFunction.{PreFunction}
-use Rattle.steps.specs.declared.PreFunction.the-variants.{None, Resets, Delta, Deriv, Intervals}
+use Rattle.steps.specs.declared.PreFunction.the-variants.{None, Resets, Delta, Deriv, Intervals, ResetsOnce}
 use Rattle.series.proofs.Accepted.{AcceptedSeries}
 use Rattle.series.proofs.All.{All, Finite, Number, finite-all}
 use Rattle.ieee.proofs.Numbers.{finite-number, sub-number, div-number, seconds-positive}
 use Rattle.steps.specs.declared.Counter.{Counter}
-use Rattle.steps.proofs.Resets.{resets-numbers}
+use Rattle.steps.specs.Counters.{corrected-again, corrected-once}
+use Rattle.steps.proofs.Resets.{counter-numbers}
 use Rattle.series.proofs.Times.{within-list}
 
 -- ---- the number of values
 
-resets-length : (s : Counter) (vs : List Float) → length (resetsFrom s vs) ≡ length vs
-unfolding resetsFrom
-resets-length s [] = refl
-resets-length s (v ∷ vs) = ap suc (resets-length _ vs)
+outputs-length : (next : Counter → Float → Counter) (s : Counter) (vs : List Float) → length (outputsFrom next s vs) ≡ length vs
+unfolding outputsFrom
+outputs-length next s [] = refl
+outputs-length next s (v ∷ vs) = ap suc (outputs-length next (next s v) vs)
 
 deltas-length : (d p : Float) (vs : List Float) → length (deltasFrom d p vs) ≡ suc (length vs)
 unfolding deltasFrom
@@ -65,13 +66,14 @@ second-length (x ∷ y ∷ ys) = refl
 pub prepared-length : (pre : PreFunction) (ts : List ℤ) (vs : List Float) → length ts ≡ length vs → length (preparedOf pre ts vs) ≡ length vs
 unfolding preparedOf deltas derivs
 prepared-length None ts vs e = refl
-prepared-length Resets ts vs e = resets-length _ vs
+prepared-length Resets ts vs e = outputs-length _ _ vs
 prepared-length Delta ts [] e = refl
 prepared-length Delta ts (v ∷ vs) e = deltas-length plusZero v vs
 prepared-length Deriv [] vs e = e
 prepared-length Deriv (t ∷ ts) [] e = refl
 prepared-length Deriv (t ∷ ts) (v ∷ vs) e = derivs-length _ ts vs (suc-inj e)
 prepared-length Intervals ts vs e = second-length (intervalsFrom nan ts) ∙ intervals-length nan ts ∙ e
+prepared-length ResetsOnce ts vs e = outputs-length _ _ vs
 
 -- ---- delta
 
@@ -156,7 +158,7 @@ all-numbers (v ∷ vs) a = (finite-number v (a .0), all-numbers vs (a .1))
 numbers : (pre : PreFunction) (ts : List ℤ) (vs : List Float) → All (Within timeLimit) ts → All Finite vs → (pre ≡ Intervals → length ts ≢ 1) → All Number (preparedOf pre ts vs)
 unfolding preparedOf deltas derivs intervalsFrom isNan ofBits
 numbers None ts vs w a lone = all-numbers vs a
-numbers Resets ts vs w a lone = resets-numbers vs a
+numbers Resets ts vs w a lone = counter-numbers corrected-again ts vs a
 numbers Delta ts [] w a lone = tt
 numbers Delta ts (v ∷ vs) w a lone = deltas-numbers plusZero v refl (a .0) vs (a .1)
 numbers Deriv [] vs w a lone = tt
@@ -167,6 +169,7 @@ numbers Intervals (t ∷ []) vs w a lone = absurd (lone refl refl)
 numbers Intervals (t ∷ u ∷ us) vs w a lone =
     let later = intervals-numbers (wholeSeconds t) (seconds-finite t (w .0)) (u ∷ us) (w .1) in
     (later .0, later)
+numbers ResetsOnce ts vs w a lone = counter-numbers corrected-once ts vs a
 
 pub prepared-not-nan : (pre : PreFunction) (ts : List ℤ) (bs : List ℕ) → AcceptedSeries ts bs → (pre ≡ Intervals → length ts ≢ 1) → All Number (preparedOf pre ts (floats bs))
 prepared-not-nan pre ts bs accepted lone = numbers pre ts (floats bs) (within-list ts (accepted .times .all-inside)) (finite-all bs (accepted .all-finite)) lone

@@ -1,5 +1,5 @@
--- On finite values the outputs of the reset step are numbers, and they never fall.
--- The correction c and the last output p stay such that the next sums are numbers: c is no NaN, p is no NaN, and of two infinities both are positive (`fine`).
+-- On finite values the outputs of both counter steps are numbers, and they never fall.
+-- The correction c and what the next value is compared with, p, stay such that the next sums are numbers: c is no NaN, p is no NaN, and of two infinities both are positive (`fine`).
 -- A partial reset adds p - v, which is finite: were it not, -8 d would be infinite and not below p. A whole reset adds p.
 -- Assumes nothing.
 use Prim.Native.Nat.{ℕ, zero, suc, _<_}
@@ -18,7 +18,9 @@ use Rattle.ieee.proofs.Rank.{rank}
 use Rattle.ieee.proofs.Order.{lt-rank, le-rank}
 use Rattle.ieee.proofs.Tests.{by-test}
 use Rattle.steps.specs.declared.Counter.{Counter}
-use Rattle.steps.specs.Steps.{plusZero, eight, counterAfter, grown, lifted, resetsFrom, resets}
+use Rattle.steps.specs.declared.PreFunction.{PreFunction}
+use Rattle.steps.specs.Counters.{CounterStep, corrected-again, corrected-once, NeverFalls}
+use Rattle.steps.specs.Steps.{plusZero, eight, begun, corrected, counted, grown, lifted, outputsFrom, preparedOf, resets}
 use Rattle.series.proofs.All.{All, Finite, Number}
 use Rattle.ieee.proofs.Numbers.{add-number, finite-add-number, sub-swap}
 
@@ -110,21 +112,7 @@ step (inf false) (inf true) (fin s m e) h k = absurd (false≢true h)
 step (inf false) (inf false) (fin s m e) h k = refl
 step (inf false) (fin t n d) (fin s m e) h k = step-fin s m e t n d (inf false) refl
 
--- ---- the outputs are numbers
-
-numbers-from : (s : Counter) → fine (s .correction) (s .output) ≡ true → (vs : List Float) → All Finite vs → All Number (resetsFrom s vs)
-unfolding counterAfter resetsFrom
-numbers-from s f [] a = tt
-numbers-from s f (v ∷ vs) a =
-    let t = counterAfter s v in
-    let g = step (s .correction) (s .output) v f (a .0) in
-    (fine-output (t .correction) (t .output) g, numbers-from t g vs (a .1))
-
-pub resets-numbers : (vs : List Float) → All Finite vs → All Number (resets vs)
-unfolding ofBits isNan
-resets-numbers vs a = numbers-from _ refl vs a
-
--- ---- they never fall
+-- ---- what is written is lifted
 
 pub lifted-fits : (p w : Float) → T (fits binary64 p) → T (fits binary64 w) → T (fits binary64 (lifted p w))
 unfolding lifted
@@ -137,31 +125,106 @@ lifted-le p w f g h k =
     (λ e. rw e (le-rank p p f f h h ∙ le-leb (rank p) (rank p) (le-refl (rank p))))
     (λ e. rw e (le-rank p w f g h k ∙ le-leb (rank p) (rank w) (ltb-false (rank w) (rank p) (sym (lt-rank w p g f k h) ∙ e))))
 
+-- ---- a value that is compared with p
+
+-- a state in which that can be done
+pub record Sound (p : Float) (s : Counter) : Type 0 where
+  comparable : fine (s .correction) p ≡ true
+  pub number : Number (s .output)
+  held : T (fits binary64 (s .output))
+
+pub begun-sound : Sound (inf true) begun
+unfolding ofBits isNan
+begun-sound = record { comparable = refl; number = refl; held = inf-fits binary64 true }
+
+module _ (p : Float) (s : Counter) (v : Float) (h : Sound p s) (k : Finite v) where
+  correction-number : Number (counted p s v .correction)
+  unfolding corrected
+  correction-number = fine-correction (grown (s .correction) p v) _ (step (s .correction) p v (h .comparable) k)
+
+  sum-number : Number (add binary64 v (counted p s v .correction))
+  sum-number = finite-add-number binary64 v (counted p s v .correction) k correction-number
+
+  sound-after : (q : Float) → fine (counted p s v .correction) q ≡ true → Sound q (counted p s v)
+  unfolding corrected
+  sound-after q f =
+      record {
+        comparable = f;
+        number = lifted-number (s .output) (add binary64 v (counted p s v .correction)) (h .number) sum-number;
+        held = lifted-fits (s .output) (add binary64 v (counted p s v .correction)) (h .held) (add-fits binary64 v (counted p s v .correction));
+      }
+
+  output-climbs : le (s .output) (counted p s v .output) ≡ true
+  unfolding corrected
+  output-climbs = lifted-le (s .output) (add binary64 v (counted p s v .correction)) (h .held) (add-fits binary64 v (counted p s v .correction)) (h .number) sum-number
+
+-- ---- a step, by what of its state a value is compared with
+
+abbrev pub Keeps : (Counter → Float) → Type 0
+Keeps compared = (s : Counter) (v : Float) → Sound (compared s) s → Finite v → Sound (compared (counted (compared s) s v)) (counted (compared s) s v)
+
+pub keeps-output : Keeps (λ s. s .output)
+unfolding corrected
+keeps-output s v h k = sound-after (s .output) s v h k _ (step (s .correction) (s .output) v (h .comparable) k)
+
+fine-finite : (c v : Float) → Number c → Finite v → fine c v ≡ true
+unfolding isNan
+fine-finite c nan h k = absurd (false≢true k)
+fine-finite c (inf s) h k = absurd (false≢true k)
+fine-finite nan (fin s m e) h k = absurd (true≢false h)
+fine-finite (inf true) (fin s m e) h k = refl
+fine-finite (inf false) (fin s m e) h k = refl
+fine-finite (fin t n d) (fin s m e) h k = refl
+
+pub keeps-value : Keeps (λ s. s .value)
+unfolding corrected
+keeps-value s v h k = sound-after (s .value) s v h k v (fine-finite _ v (correction-number (s .value) s v h k) k)
+
 -- no value of the list is below the one before it, nor the first below p
 abbrev Climbs : Float → List Float → Type 0
 Climbs p [] = Unit
 Climbs p (x ∷ xs) = (le p x ≡ true) × Climbs x xs
 
-climbs-from : (s : Counter) → fine (s .correction) (s .output) ≡ true → T (fits binary64 (s .output)) → (vs : List Float) → All Finite vs
-    → Climbs (s .output) (resetsFrom s vs)
-unfolding counterAfter resetsFrom
-climbs-from s f h [] a = tt
-climbs-from s f h (v ∷ vs) a =
-    let p = s .output in
-    let t = counterAfter s v in
-    let w = add binary64 v (t .correction) in
-    let w-fits = add-fits binary64 v (t .correction) in
-    let g = step (s .correction) p v f (a .0) in
-    let number = finite-add-number binary64 v (t .correction) (a .0) (fine-correction (t .correction) (t .output) g) in (
-      lifted-le p w h w-fits (fine-output (s .correction) p f) number,
-      climbs-from t g (lifted-fits p w h w-fits) vs (a .1),
-    )
+module _ (compared : Counter → Float) (keeps : Keeps compared) where
+  abbrev next : Counter → Float → Counter
+  next s v = counted (compared s) s v
+
+  numbers-from : (s : Counter) → Sound (compared s) s → (vs : List Float) → All Finite vs → All Number (outputsFrom next s vs)
+  unfolding outputsFrom
+  numbers-from s h [] a = tt
+  numbers-from s h (v ∷ vs) a = let g = keeps s v h (a .0) in (g .number, numbers-from (next s v) g vs (a .1))
+
+  climbs-from : (s : Counter) → Sound (compared s) s → (vs : List Float) → All Finite vs → Climbs (s .output) (outputsFrom next s vs)
+  unfolding outputsFrom
+  climbs-from s h [] a = tt
+  climbs-from s h (v ∷ vs) a = (output-climbs (compared s) s v h (a .0), climbs-from (next s v) (keeps s v h (a .0)) vs (a .1))
+
+-- ---- resets and resets_once
+
+pub counter-numbers : {pre : PreFunction} → CounterStep pre → (ts : List ℤ) (vs : List Float) → All Finite vs → All Number (preparedOf pre ts vs)
+unfolding preparedOf
+counter-numbers corrected-again ts vs a = numbers-from (λ s. s .output) keeps-output begun begun-sound vs a
+counter-numbers corrected-once ts vs a = numbers-from (λ s. s .value) keeps-value begun begun-sound vs a
+
+counter-climbs : {pre : PreFunction} → CounterStep pre → (ts : List ℤ) (vs : List Float) → All Finite vs → Climbs (inf true) (preparedOf pre ts vs)
+unfolding preparedOf
+counter-climbs corrected-again ts vs a = climbs-from (λ s. s .output) keeps-output begun begun-sound vs a
+counter-climbs corrected-once ts vs a = climbs-from (λ s. s .value) keeps-value begun begun-sound vs a
 
 climbs-at : (p : Float) (xs : List Float) → Climbs p xs → (d : Float) (i : ℕ) → i < length xs → le (getD (p ∷ xs) i d) (getD xs i d) ≡ true
 climbs-at p [] a d i h = absurd (not-suc-le-zero h)
 climbs-at p (x ∷ xs) a d zero h = a .0
 climbs-at p (x ∷ xs) a d (suc i) h = climbs-at x xs (a .1) d i (le-of-suc-le-suc h)
 
+pub counter-rises : {pre : PreFunction} → CounterStep pre → (ts : List ℤ) (vs : List Float) → All Finite vs → NeverFalls (preparedOf pre ts vs)
+counter-rises {pre} step ts vs a d i h = climbs-at (inf true) (preparedOf pre ts vs) (counter-climbs step ts vs a) d (suc i) h
+
+-- ---- of resets alone
+
+pub resets-numbers : (vs : List Float) → All Finite vs → All Number (resets vs)
+unfolding preparedOf
+resets-numbers vs a = counter-numbers corrected-again [] vs a
+
 pub resets-rise : (vs : List Float) → All Finite vs → (d : Float) (i : ℕ) → suc i < length (resets vs) → le (getD (resets vs) i d) (getD (resets vs) (suc i) d) ≡ true
-unfolding ofBits isNan
-resets-rise vs a d i h = climbs-at (inf true) (resets vs) (climbs-from _ refl (inf-fits binary64 true) vs a) d (suc i) h
+unfolding preparedOf
+resets-rise vs a d i h = counter-rises corrected-again [] vs a d i h

@@ -7,7 +7,7 @@ use lib.Signed.{ltZ, quotZ}
 use lib.Ieee.{Float, nan, inf, binary64, ofBits, ofInt, add, sub, mul, div, neg, lt}
 use Rattle.ieee.specs.Value.{secondsOf}
 use Rattle.steps.specs.declared.PreFunction.{PreFunction}
-use Rattle.steps.specs.declared.PreFunction.the-variants.{None, Resets, Delta, Deriv, Intervals}
+use Rattle.steps.specs.declared.PreFunction.the-variants.{None, Resets, Delta, Deriv, Intervals, ResetsOnce}
 use Rattle.steps.specs.declared.Counter.{Counter}
 use Rattle.steps.specs.declared.Slope.{Slope}
 
@@ -22,13 +22,13 @@ abbrev pub pick : {A : Type 0} → Bool → A → A → A
 pick true a b = a
 pick false a b = b
 
--- ---- resets: `remove_counter_resets`
+-- ---- the counter steps: resets, `remove_counter_resets`; and resets_once, which the Rust does not have and which corrects each restart once
 
--- what a fall from the corrected predecessor p to the raw value v adds: p - v where -8 d < p for d = v - p, else p
+-- what a fall from p to the raw value v adds: p - v where -8 d < p for d = v - p, else p
 abbrev pub fallen : Float → Float → Float
 fallen p v = pick (lt (mul binary64 (neg (sub binary64 v p)) eight) p) (sub binary64 p v) p
 
--- the correction c once the raw value v is read: it grows where v - p < 0
+-- the correction c once the raw value v is compared with p: it grows where v - p < 0
 unfoldable pub grown : Float → Float → Float → Float
 grown c p v = pick (lt (sub binary64 v p) plusZero) (add binary64 c (fallen p v)) c
 
@@ -36,18 +36,36 @@ grown c p v = pick (lt (sub binary64 v p) plusZero) (add binary64 c (fallen p v)
 unfoldable pub lifted : Float → Float → Float
 lifted p w = pick (lt w p) p w
 
--- the correction and the output after the raw value v
-unfoldable pub counterAfter : Counter → Float → Counter
-counterAfter s v = let c = grown (s .correction) (s .output) v in record { correction = c; output = lifted (s .output) (add binary64 v c) }
+-- the state after the raw value v, with a correction c
+unfoldable pub corrected : Float → Counter → Float → Counter
+corrected c s v = record { correction = c; value = v; output = lifted (s .output) (add binary64 v c) }
 
--- the outputs from a state on
-unfoldable pub resetsFrom : Counter → List Float → List Float
-resetsFrom s [] = []
-resetsFrom s (v ∷ vs) = counterAfter s v .output ∷ resetsFrom (counterAfter s v) vs
+-- the state after the raw value v, which is compared with p
+abbrev pub counted : Float → Counter → Float → Counter
+counted p s v = corrected (grown (s .correction) p v) s v
+
+-- resets compares with the output before: after a restart each value that is still below it is corrected again
+abbrev pub counterAfter : Counter → Float → Counter
+counterAfter s v = counted (s .output) s v
+
+-- resets_once compares with the raw value before
+abbrev pub counterAfterOnce : Counter → Float → Counter
+counterAfterOnce s v = counted (s .value) s v
+
+-- the outputs from a state on, where each value leads to the next state
+unfoldable pub outputsFrom : (Counter → Float → Counter) → Counter → List Float → List Float
+outputsFrom next s [] = []
+outputsFrom next s (v ∷ vs) = next s v .output ∷ outputsFrom next (next s v) vs
 
 -- The correction starts at +0.0 and is added to the first value too, so −0.0 becomes +0.0. Before that value stands −∞: nothing lies below it.
+abbrev pub begun : Counter
+begun = record { correction = plusZero; value = inf true; output = inf true }
+
 abbrev pub resets : List Float → List Float
-resets vs = resetsFrom (record { correction = plusZero; output = inf true }) vs
+resets vs = outputsFrom counterAfter begun vs
+
+abbrev pub resetsOnce : List Float → List Float
+resetsOnce vs = outputsFrom counterAfterOnce begun vs
 
 -- ---- delta: `delta_values`
 
@@ -105,3 +123,4 @@ preparedOf Resets ts vs = resets vs
 preparedOf Delta ts vs = deltas vs
 preparedOf Deriv ts vs = derivs ts vs
 preparedOf Intervals ts vs = intervals ts
+preparedOf ResetsOnce ts vs = resetsOnce vs

@@ -20,6 +20,7 @@ pub fn step_of(pre: u32) -> Step
         2 => Step::Known(PreFunction::Delta),
         3 => Step::Known(PreFunction::Deriv),
         4 => Step::Known(PreFunction::Intervals),
+        5 => Step::Known(PreFunction::ResetsOnce),
         _ => Step::Unknown,
     }
 }

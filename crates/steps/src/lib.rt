@@ -14,7 +14,7 @@ ghost use lib.ListN.{length, getD};
 ghost use Rattle.times.specs.Milli.{timeLimit, Within};
 ghost use Rattle.times.specs.Leading.{leading};
 ghost use Rattle.series.specs.Rows.{timeInside, finiteBits};
-ghost use Rattle.steps.specs.Steps.{counterAfter, grown, lifted, resets, deltas, sloped, derivs, wholeSeconds, intervals};
+ghost use Rattle.steps.specs.Steps.{begun, corrected, counterAfter, counterAfterOnce, grown, lifted, resets, resetsOnce, deltas, sloped, derivs, wholeSeconds, intervals};
 
 // What is done to a series' values before they are rolled up.
 pub enum PreFunction {
@@ -23,11 +23,13 @@ pub enum PreFunction {
     Delta,
     Deriv,
     Intervals,
+    ResetsOnce,
 }
 
-// What the reset step keeps from one value to the next: the correction, and the output before.
+// What a counter step keeps from one value to the next: the correction, the raw value before and its output.
 pub struct Counter {
     pub correction: f64,
+    pub value: f64,
     pub output: f64,
 }
 
@@ -46,7 +48,7 @@ fn read(values: &[u64], i: usize) -> f64
     ieee::number_of(values[i])
 }
 
-// The correction c once the raw value v is read, where p is the output before.
+// The correction c once the raw value v is compared with p.
 fn correction_after(c: f64, p: f64, v: f64) -> f64
     ensures { λ r. ⌜ r ≡ grown c p v ⌝ }
 {
@@ -61,6 +63,18 @@ fn correction_after(c: f64, p: f64, v: f64) -> f64
     c
 }
 
+// The same without a jump on the values, which is faster where p is at hand early, and slower where the turn before works it out. To
+// add -0.0 leaves any number as it is.
+fn correction_without_jumps(c: f64, p: f64, v: f64) -> f64
+    ensures { λ r. ⌜ r ≡ grown c p v ⌝ }
+{
+    let d = v - p;
+    let partial = p - v;
+    let fallen = if -d * 8.0 < p { partial } else { p };
+    let more = if d < 0.0 { fallen } else { -0.0 };
+    c + more
+}
+
 // v, or p where v is below it.
 fn raised(p: f64, v: f64) -> f64
     ensures { λ r. ⌜ r ≡ lifted p v ⌝ }
@@ -69,15 +83,40 @@ fn raised(p: f64, v: f64) -> f64
 }
 
 impl Counter {
-    // The state after the raw value v, with v's output.
+    // The state before the first value. Nothing lies below -infinity, so that value is no reset.
+    pub fn new() -> Counter
+        ensures { λ r. ⌜ r ≡ begun ⌝ }
+    {
+        Counter {
+            correction: 0.0,
+            value: -1.0 / 0.0,
+            output: -1.0 / 0.0,
+        }
+    }
+
+    // The state after the raw value v, once the correction is known.
+    fn corrected(self, correction: f64, v: f64) -> Counter
+        ensures { λ r. ⌜ r ≡ corrected correction self v ⌝ }
+    {
+        Counter {
+            correction,
+            value: v,
+            output: raised(self.output, v + correction),
+        }
+    }
+
+    // The state after the raw value v, with v's output: v is compared with the output before.
     pub fn next(self, v: f64) -> Counter
         ensures { λ r. ⌜ r ≡ counterAfter self v ⌝ }
     {
-        let correction = correction_after(self.correction, self.output, v);
-        Counter {
-            correction,
-            output: raised(self.output, v + correction),
-        }
+        self.corrected(correction_after(self.correction, self.output, v), v)
+    }
+
+    // The same where v is compared with the raw value before, so that a restart is corrected once.
+    pub fn next_once(self, v: f64) -> Counter
+        ensures { λ r. ⌜ r ≡ counterAfterOnce self v ⌝ }
+    {
+        self.corrected(correction_without_jumps(self.correction, self.value, v), v)
     }
 }
 
@@ -86,15 +125,25 @@ pub fn remove_counter_resets(values: &[u64], prepared: &mut [u64])
     requires { ⌜ (length (now prepared) ≡ length (now values)) × (leading finiteBits (now values) ≡ length (now values)) ⌝ }
     ensures { λ _. ⌜ now (prepared .exit) ≡ patterns (resets (floats (now (values .entry)))) ⌝ }
 {
-    // Nothing lies below -infinity, so the first value is no reset.
-    let mut counter = Counter {
-        correction: 0.0,
-        output: -1.0 / 0.0,
-    };
+    let mut counter = Counter::new();
     let mut i = 0;
     while i < values.len() {
         counter = counter.next(read(values, i));
-        prepared[i] = ieee::bits_of(counter.output);
+        prepared[i] = ieee::number_bits(counter.output);
+        i += 1;
+    }
+}
+
+// Each value with the counter's resets added back, each restart once.
+pub fn remove_counter_resets_once(values: &[u64], prepared: &mut [u64])
+    requires { ⌜ (length (now prepared) ≡ length (now values)) × (leading finiteBits (now values) ≡ length (now values)) ⌝ }
+    ensures { λ _. ⌜ now (prepared .exit) ≡ patterns (resetsOnce (floats (now (values .entry)))) ⌝ }
+{
+    let mut counter = Counter::new();
+    let mut i = 0;
+    while i < values.len() {
+        counter = counter.next_once(read(values, i));
+        prepared[i] = ieee::number_bits(counter.output);
         i += 1;
     }
 }

@@ -10,7 +10,8 @@ pub enum Step {
     /// The values as they are.
     #[default]
     None,
-    /// A counter's restarts taken out.
+    /// A counter's restarts added back, as the original does: one is corrected again at each later
+    /// value that is still below the one before it as corrected. 10, 2, 3 becomes 10, 12, 25.
     Resets,
     /// The step to the next value.
     Delta,
@@ -18,16 +19,18 @@ pub enum Step {
     Deriv,
     /// The whole seconds since the reading before.
     Intervals,
+    /// A counter's restarts added back, each once: 10, 2, 3 becomes 10, 12, 13.
+    ResetsOnce,
 }
 
 impl Step {
     /// Every step, in the order of its number.
-    pub const ALL: [Step; 5] =
-        [Step::None, Step::Resets, Step::Delta, Step::Deriv, Step::Intervals];
+    pub const ALL: [Step; 6] =
+        [Step::None, Step::Resets, Step::Delta, Step::Deriv, Step::Intervals, Step::ResetsOnce];
 
     /// The name that it is written by.
     pub fn name(self) -> &'static str {
-        ["none", "resets", "delta", "deriv", "intervals"][self as usize]
+        ["none", "resets", "delta", "deriv", "intervals", "resets_once"][self as usize]
     }
 }
 

@@ -27,5 +27,6 @@ fn other_text_is_told_what_was_expected() {
     assert_eq!(message("holt_winters(1)"), "expected holt_winters(smoothing, trend) with numbers");
     assert_eq!(message("avg(1)"), "expected avg without parameters");
     let step = "rate".parse::<Step>().unwrap_err().to_string();
-    assert_eq!(step, "expected a preparing step: one of none, resets, delta, deriv, intervals");
+    let names = "none, resets, delta, deriv, intervals, resets_once";
+    assert_eq!(step, format!("expected a preparing step: one of {names}"));
 }

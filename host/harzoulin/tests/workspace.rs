@@ -43,6 +43,19 @@ fn a_used_workspace_answers_as_a_new_one() {
     }
 }
 
+/// The two steps for a counter: one corrects a restart at each later value, the other once.
+#[test]
+fn a_restart_again_and_once() {
+    let (times, values) = ([0, 1, 2], [10.0, 2.0, 3.0]);
+    let mut workspace = Workspace::new();
+    let again = workspace.prepare(&times, &values, Step::Resets);
+    assert_eq!(again, Ok(&[10.0, 12.0, 25.0][..]));
+    let once = workspace.prepare(&times, &values, Step::ResetsOnce);
+    assert_eq!(once, Ok(&[10.0, 12.0, 13.0][..]));
+    let first = workspace.prepare(&times[..1], &[-0.0], Step::ResetsOnce).unwrap();
+    assert_eq!(first[0].to_bits(), 0);
+}
+
 /// Refused calls leave the memory as it was, at any row.
 #[test]
 fn a_refusal_needs_no_memory() {

@@ -1,0 +1,12 @@
+-- The table of cases that were stated for what goes beyond the Rust holds: the checker computes each case from the definitions.
+-- Assumes nothing.
+use mathlib.Core.Path.{_≡_, refl}
+use mathlib.Core.List.{map}
+use lib.Ieee.{add, lt, mul, neg, ofBits, ofInt, sub, toBits}
+use Rattle.steps.specs.Steps.{corrected, grown, lifted, outputsFrom, preparedOf}
+use Rattle.claims.specs.Requested.{requested}
+use Rattle.claims.specs.Table.{Case}
+
+pub requested-hold : map (λ (x : Case). x .computed) requested ≡ map (λ (x : Case). x .stated) requested
+unfolding add lt mul neg ofBits ofInt sub toBits corrected grown lifted outputsFrom preparedOf
+requested-hold = refl
