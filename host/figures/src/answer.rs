@@ -17,6 +17,8 @@ use crate::series::Series;
 pub struct Answer {
     /// The series; without its readings where no picture is drawn.
     pub series: Series,
+    /// The counter with its restarts added back, where it is drawn beside the readings.
+    pub corrected: Vec<f64>,
     /// How many readings it has.
     pub readings: usize,
     /// The settings, with its grid.
@@ -63,9 +65,24 @@ impl Answer {
             behind = run.behind().map_err(refused)?;
             leave_out(&mut figures, &behind, options.min_readings);
         }
+        let mut corrected = vec![];
+        if options.draws_corrected() {
+            corrected = run.prepared(options.pre).map_err(refused)?;
+        }
         let (core, readings) = (begin.elapsed(), series.times.len());
         let jobs = shared.map_or(1, NonZero::get);
-        Ok(Answer { series, readings, settings, settled, figures, behind, count, jobs, core })
+        Ok(Answer {
+            series,
+            corrected,
+            readings,
+            settings,
+            settled,
+            figures,
+            behind,
+            count,
+            jobs,
+            core,
+        })
     }
 
     /// How many output times there are.
@@ -120,6 +137,12 @@ impl Run<'_> {
             }
         };
         Ok((run.values.to_vec(), run.count))
+    }
+
+    /// The values after a step.
+    fn prepared(&mut self, pre: Step) -> Result<Vec<f64>, Refusal> {
+        let (times, values) = (&self.series.times, &self.series.values);
+        self.workspace.prepare(times, values, pre).map(<[f64]>::to_vec)
     }
 
     /// How many readings are in the window of each output time, by the core's own count. That of an

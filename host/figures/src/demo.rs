@@ -16,7 +16,7 @@ use crate::{output, plot, read, write};
 const SERIES: [(&[u8], &str, &str); 3] = [
     (
         include_bytes!("../../../data/drive.csv"),
-        "--rollup ascent_over_time --step 7d --start 2026-03-09 --times rfc3339 --format text data/drive.csv",
+        "--pre resets_once --rollup increase_pure --step 7d --start 2026-03-09 --times rfc3339 --format text data/drive.csv",
         "m",
     ),
     (
@@ -35,7 +35,7 @@ const SERIES: [(&[u8], &str, &str); 3] = [
 /// picture to a file.
 pub fn run(picture: &str) -> Result<(), Failure> {
     let series: Result<Vec<_>, _> =
-        SERIES.into_iter().map(|(text, line, unit)| answers(text, line, unit)).collect();
+        SERIES.into_iter().map(|(text, line, unit)| answers(text, line, unit, picture)).collect();
     let series = series?;
     let drawn: Vec<_> = series.iter().map(|(answers, options)| (&answers[..], options)).collect();
     let mut files = Files::default();
@@ -50,12 +50,17 @@ pub fn run(picture: &str) -> Result<(), Failure> {
     files.put()
 }
 
-fn answers(text: &[u8], line: &str, unit: &str) -> Result<(Vec<Answer>, Options), Failure> {
+fn answers(
+    text: &[u8],
+    line: &str,
+    unit: &str,
+    picture: &str,
+) -> Result<(Vec<Answer>, Options), Failure> {
     let arguments = line.split_whitespace().map(String::from);
     let Command::Figures(mut options) = arguments::parse(arguments)? else {
         unreachable!("the line names files and options only")
     };
-    options.common.unit = unit.into();
+    (options.common.unit, options.common.plot) = (unit.into(), Some(picture.into()));
     let progress = Progress::default();
     let common = &options.common;
     let input = read::csv(&common.files[0], text, &common.chosen, &progress)?;

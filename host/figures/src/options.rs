@@ -65,6 +65,12 @@ impl Options {
         self.readings || self.min_readings > 0 || shown
     }
 
+    /// Whether a picture has the prepared values beside the readings: those of a counter whose restarts
+    /// are added back once are of the same unit, and go on where the readings fall.
+    pub fn draws_corrected(&self) -> bool {
+        self.common.plot.is_some() && self.pre == Step::ResetsOnce
+    }
+
     /// The settings for a series: its own grid where none is given.
     pub fn settings(&self, series: &Series) -> Result<Settings, Failure> {
         let whole = |time: Option<&i64>| {

@@ -77,7 +77,7 @@ fn other(names: &[(&str, &'static str)], name: &str) -> Option<&'static str> {
 /// What is said of a name that no rollup has.
 fn expected(name: &str) -> String {
     if let Some(core) = other(&PREPARED, name) {
-        return format!("expected a rollup: MetricsQL's {name} is {core} after --pre resets");
+        return format!("expected a rollup: MetricsQL's {name} is {core} after --pre resets_once");
     }
     let near = match other(&WORDS, name) {
         Some(core) => vec![core],
@@ -156,7 +156,7 @@ mod tests {
         assert_eq!(message("avg_over_tim"), "expected a rollup: see figures list");
         assert_eq!(message(""), "expected a rollup: see figures list");
         assert_eq!(message(&"x".repeat(100_000)), "expected a rollup: see figures list");
-        let rate = "expected a rollup: MetricsQL's rate is deriv_fast after --pre resets";
+        let rate = "expected a rollup: MetricsQL's rate is deriv_fast after --pre resets_once";
         assert_eq!(message("rate"), rate);
         assert_eq!(message("quantile_over_time"), "expected quantile(phi) with numbers");
     }

@@ -51,6 +51,26 @@ fn rollups_with_parameters() {
     assert_eq!(two, "time,\"holt_winters(0.5, 0.1)\"\n60000,2\n");
 }
 
+/// A counter's growth is right across a restart, from 10 to 2 and from 9 to 3, where each is corrected
+/// once. The rises alone miss what was counted up to the first reading after it, and the original's
+/// step corrects it at each reading that follows.
+#[test]
+fn a_counter_that_restarts() {
+    let input = "0,8\n60000,10\n120000,2\n180000,3\n240000,9\n300000,3\n360000,4\n";
+    let of = |pre: &str, rollup: &str| {
+        let line = format!("--pre {pre} --rollup {rollup} --step 3m --start 180000 -");
+        let text = output(&line, input);
+        let figures = text.lines().skip(1).map(|line| line.split_once(',').unwrap().1.to_string());
+        figures.collect::<Vec<String>>()
+    };
+    assert_eq!(of("resets_once", "default"), ["13", "23"]);
+    assert_eq!(of("resets_once", "increase_pure"), ["5", "10"]);
+    assert_eq!(of("resets_once", "delta"), ["5", "10"]);
+    assert_eq!(of("none", "delta"), ["-5", "1"]);
+    assert_eq!(of("none", "ascent_over_time"), ["3", "7"]);
+    assert_eq!(of("resets", "default"), ["25", "213"]);
+}
+
 /// Forty series in one file and in a file each, by one job and by two.
 #[test]
 fn two_jobs_give_the_bytes_of_one() {

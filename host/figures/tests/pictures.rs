@@ -107,6 +107,36 @@ fn the_preparing_step_is_in_the_title() {
     );
 }
 
+/// After resets_once the counter goes on over its restart, in the same panel; after no other step is
+/// there such a line.
+#[test]
+fn a_counter_goes_on_over_its_restart() {
+    let readings = "2026-05-01,60\n2026-05-02,80\n2026-05-03,20\n2026-05-04,40\n";
+    let line = |svg: &str, class: &str| -> Option<Vec<(f64, f64)>> {
+        let (_, path) = svg.split_once(&format!("<path class=\"{class}\" d=\"M"))?;
+        let points = path.split_once("h0").unwrap().0.split('L');
+        let point = |point: &str| {
+            let (x, y) = point.split_once(' ').unwrap();
+            (x.parse().unwrap(), y.parse().unwrap())
+        };
+        Some(points.map(point).collect())
+    };
+    let svg = picture(readings, "--rollup delta --step 1d --pre resets_once");
+    let (raw, corrected) = (line(&svg, "line").unwrap(), line(&svg, "corrected").unwrap());
+    assert_eq!(raw[..2], corrected[..2]);
+    // 60, 80, 100, 120 stand as far apart as 20 and 40.
+    let step = raw[2].1 - raw[3].1;
+    for pair in corrected.windows(2) {
+        assert!((pair[0].1 - pair[1].1 - step).abs() < 0.2, "{corrected:?}");
+    }
+    assert!(texts(&svg).contains(&"pale: the restarts added back"));
+    for pre in ["none", "resets", "delta", "deriv", "intervals"] {
+        let svg = picture(readings, &format!("--rollup delta --step 1d --pre {pre}"));
+        assert_eq!(line(&svg, "corrected"), None);
+        assert!(!texts(&svg).contains(&"pale: the restarts added back"));
+    }
+}
+
 #[test]
 fn a_picture_has_some_dozen_parts_at_most() {
     let folder = Folder::new("dozen");

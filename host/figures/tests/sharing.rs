@@ -29,6 +29,7 @@ fn every_number_of_jobs_gives_the_same_bytes() {
         ("quantile(0.3)", "deriv"),
         ("changes", "resets"),
         ("avg", "intervals"),
+        ("increase_pure", "resets_once"),
     ] {
         let of = |jobs: u32| {
             let settings = format!("--step 1m --window 3d --start 0 --pre {pre} --readings");

@@ -46,20 +46,26 @@ impl Canvas<'_> {
         }
     }
 
-    /// A line through the readings, broken at gaps. Few readings have a dot each.
+    /// A line through the readings. Few readings have a dot each.
     pub fn readings(&mut self) {
         let (times, values) = (&self.series.times, &self.series.values);
+        self.along("line", values);
         let shown = shown(times, self.low, self.high);
-        let time = |place: usize| times[place];
-        let breaks = |place| self.gap(place).is_some();
-        let path = self.path(&self.panels[0].y, shown.clone(), time, values, breaks);
-        self.put(format_args!("<path class=\"line\" d=\"{path}\"/>"));
         let single = shown.len() <= SINGLE;
         for place in shown.filter(|_| single) {
             let x = self.x.place(times[place] as f64);
             let y = self.panels[0].y.place(values[place]);
             self.put(format_args!("<circle class=\"dot\" cx=\"{x}\" cy=\"{y}\" r=\"1.8\"/>"));
         }
+    }
+
+    /// A line among the readings through a number for each of them, broken at gaps.
+    pub fn along(&mut self, class: &str, numbers: &[f64]) {
+        let times = &self.series.times;
+        let breaks = |place| self.gap(place).is_some();
+        let shown = shown(times, self.low, self.high);
+        let path = self.path(&self.panels[0].y, shown, |place| times[place], numbers, breaks);
+        self.put(format_args!("<path class=\"{class}\" d=\"{path}\"/>"));
     }
 
     /// A line through numbers, broken after some; of those that share a column of the picture the

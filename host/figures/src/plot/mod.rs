@@ -22,6 +22,7 @@ const WIDTH: f64 = 1000.0;
 const STYLE: &str = "text{font:12px sans-serif;fill:#333}.title{font-weight:bold;font-size:14px}\
 .frame{fill:none;stroke:#999}.mark{stroke:#e4e4e4}.gap{fill:#eceff1}.note{fill:#78909c}\
 .line{fill:none;stroke:#1f77b4;stroke-width:1.2;stroke-linejoin:round;stroke-linecap:round}.dot{fill:#1f77b4}\
+.corrected{fill:none;stroke:#1f77b4;stroke-width:1.2;stroke-opacity:.4;stroke-linejoin:round;stroke-linecap:round}\
 .window{stroke:#d95f02;stroke-width:2.4;stroke-opacity:.75}.figure{fill:#d95f02}\
 .none{stroke:#78909c;stroke-width:1.5}\
 .figures{fill:none;stroke:#d95f02;stroke-width:1.2;stroke-linejoin:round;stroke-linecap:round}\

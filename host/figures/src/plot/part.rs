@@ -4,7 +4,7 @@ use harzoulin::{Rollup, Step, Unit};
 
 use super::canvas::{Canvas, TIMES, TITLE, shown};
 use super::curve::SINGLE;
-use super::panel::Panel;
+use super::panel::{Panel, ends};
 use crate::answer::Answer;
 use crate::options::Options;
 use crate::time::format_duration;
@@ -44,8 +44,11 @@ impl<'a> Part<'a> {
             None => times.last().map_or(end, |last| end.max(*last)),
         };
         let (rollup, figures) = (options.rollups[rollup], &answer.figures[rollup]);
-        let shown = &answer.series.values[shown(times, low, high)];
-        let above = Panel::of_numbers(top + TITLE, READINGS, shown);
+        let shown = shown(times, low, high);
+        let drawn = [&answer.series.values, &answer.corrected].map(|list| list.get(shown.clone()));
+        let drawn = drawn.into_iter().flatten().filter(|list| !list.is_empty()).map(ends);
+        let drawn: Vec<f64> = drawn.flat_map(|(low, high)| [low, high]).collect();
+        let above = Panel::of_numbers(top + TITLE, READINGS, &drawn);
         let below = match rollup.about().unit {
             Unit::Unix => Panel::of_times,
             _ => Panel::of_numbers,
@@ -68,6 +71,7 @@ impl<'a> Part<'a> {
         self.canvas.gaps();
         self.canvas.times(&self.legend());
         self.canvas.frame_readings(unit);
+        self.corrected();
         self.canvas.readings();
         let label = match unit_of(self.options.pre, self.rollup, unit) {
             unit if unit.is_empty() => self.rollup.to_string(),
@@ -76,6 +80,16 @@ impl<'a> Part<'a> {
         self.canvas.frame(1, &label);
         self.figures();
         self.canvas.svg
+    }
+
+    /// The counter as it goes on over its restarts, if it is drawn. It never falls, so that what is said
+    /// of it has room at the left above.
+    fn corrected(&mut self) {
+        if !self.answer.corrected.is_empty() {
+            self.canvas.along("corrected", &self.answer.corrected);
+            let (x, y) = (self.canvas.left + 8.0, self.canvas.panels[0].top + 18.0);
+            self.canvas.text(x, y, "class=\"note\"", "pale: the restarts added back");
+        }
     }
 
     /// The series, the rollup and the step that prepares its values, the window and the grid.
