@@ -1,14 +1,20 @@
-//! Crossings and nearest: what the request states of them, asked of the model; and whether the
-//! generated calls reach what they are to reach.
+//! Crossings, nearest and the step that counts a restart once: what the requests state of them, asked of
+//! the model; and whether the generated calls reach what they are to reach.
 
 use std::collections::BTreeSet;
 
 use compare::call::{Call, Case, Outcome, UNSET};
 use compare::inputs::cases;
+use compare::judge::STEPS;
 use compare::rng::Rng;
+use compare::words::all_bits;
 use compare::{model, oracle, plain, rows};
+use original::exposed::remove_counter_resets;
 
 const TIME_LIMIT: i64 = 1 << 50;
+
+/// The number of the step that counts a restart once.
+const ONCE: u32 = 5;
 
 fn crossings(values: &[f64], limit: f64, lent: usize) -> Outcome {
     let case = Case {
@@ -208,4 +214,217 @@ fn limits_at_values_are_asked() {
     assert!(many(&|c| c.limit.is_subnormal()) && many(&|c| c.limit.abs() == f64::MAX));
     let count = |c: &Case| model::count(&c.values, c.limit);
     assert!(many(&|c| count(c) > 10) && many(&|c| count(c) > 0 && c.lent as u64 == count(c)));
+}
+
+/// Prepare by a step, with room for one value more.
+fn prepare(values: &[f64], pre: u32) -> Outcome {
+    let case = Case {
+        timestamps: (0..values.len() as i64).collect(),
+        values: values.iter().map(|v| v.to_bits()).collect(),
+        pre,
+        prepared: vec![UNSET; values.len() + 1],
+        ..Case::default()
+    };
+    oracle::outcome(Call::Prepare, &case)
+}
+
+/// The step accepts the values, with these outputs at the slice's front and nothing behind them.
+fn gives(values: &[f64], stated: &[f64]) {
+    let outcome = prepare(values, ONCE);
+    assert_eq!((outcome.number, outcome.index), (0, 0));
+    assert_eq!(outcome.prepared, [all_bits(stated), vec![UNSET]].concat());
+}
+
+#[test]
+fn the_step_has_the_last_number() {
+    assert_eq!((STEPS[ONCE as usize], STEPS.len()), ("resets_once", 6));
+    let refused = prepare(&[10.0, 2.0], ONCE + 1);
+    assert_eq!((refused.number, refused.index), (28, 0));
+    assert_eq!(refused.prepared, [UNSET; 3]);
+}
+
+#[test]
+fn a_restart_is_counted_once() {
+    gives(&[10.0, 2.0, 3.0], &[10.0, 12.0, 13.0]);
+    gives(&[10.0, 0.0, -0.0, 3.0], &[10.0, 10.0, 10.0, 13.0]);
+    gives(&[5.0, 5.0, 9.0], &[5.0, 5.0, 9.0]);
+    gives(&[-5.0, -5.0, 0.0], &[-5.0, -5.0, 0.0]);
+}
+
+#[test]
+fn the_first_value_is_added_to() {
+    gives(&[], &[]);
+    gives(&[7.5], &[7.5]);
+    gives(&[-0.0], &[0.0]);
+    gives(&[-0.0, -0.0, 0.0], &[0.0, 0.0, 0.0]);
+    gives(&[-5e-324, -0.0], &[-5e-324, 0.0]);
+    gives(&[f64::MIN, f64::MAX], &[f64::MIN, f64::MAX]);
+}
+
+/// By the fall where eight times the fall is less than the value before, else by that value.
+#[test]
+fn both_rules_of_growth() {
+    gives(&[80.0, 71.0], &[80.0, 80.0]);
+    gives(&[80.0, 70f64.next_up()], &[80.0, 80.0]);
+    gives(&[80.0, 70.0], &[80.0, 150.0]);
+    gives(&[80.0, 70f64.next_down()], &[80.0, 70f64.next_down() + 80.0]);
+    gives(&[80.0, 69.0], &[80.0, 149.0]);
+    // From below zero no fall is a part.
+    gives(&[-100.0, -101.0, 0.0], &[-100.0; 3]);
+    // Eight times a fall is exact among subnormals; an eighth of a value is not.
+    let units = |n: u64| f64::from_bits(n);
+    gives(&[units(20), units(18)], &[units(20), units(20)]);
+    gives(&[units(16), units(14)], &[units(16), units(30)]);
+    gives(&[units(8), units(7)], &[units(8), units(15)]);
+    // Eight times the fall overflows, then the fall itself.
+    let half = f64::MAX / 2.0;
+    gives(&[half, half - half / 2.0], &[half, half + half / 2.0]);
+    gives(&[f64::MAX, f64::MIN, 1.0], &[f64::MAX; 3]);
+}
+
+#[test]
+fn restarts_add_up() {
+    gives(&[10.0, 2.0, 3.0, 1.0, 4.0, 0.0, 5.0], &[10.0, 12.0, 13.0, 14.0, 17.0, 17.0, 22.0]);
+    gives(&[9.0, 8.0, 7.0, 6.0], &[9.0, 9.0, 16.0, 22.0]);
+    gives(&[100.0, 95.0, 94.0], &[100.0; 3]);
+    gives(&[80.0, 71.0, 5.0], &[80.0, 80.0, 85.0]);
+    // From 8 to 6 is more than an eighth of the raw value, though less than one of the output.
+    gives(&[80.0, 0.0, 8.0, 6.0], &[80.0, 80.0, 88.0, 94.0]);
+    gives(&[-1.0, -2.0, -3.0, 10.0], &[-1.0, -1.0, -1.0, 7.0]);
+}
+
+#[test]
+fn lifted_to_the_output_before() {
+    gives(&[10.0, -2.0, 3.0], &[10.0, 10.0, 13.0]);
+    gives(&[10.0, 2.0, -1.0, 4.0], &[10.0, 12.0, 12.0, 16.0]);
+    gives(&[-5.0, -6.0, 10.0], &[-5.0, -5.0, 5.0]);
+    gives(&[-5.0, -6.0, -20.0, -7.0, 12.0], &[-5.0, -5.0, -5.0, -5.0, 1.0]);
+    // The sum of 1.7 and its correction rounds to below 11.
+    gives(&[9.2, 1.8, 1.7], &[9.2, 11.0, 11.0]);
+}
+
+/// A correction that is infinite stays so, whatever the counter does.
+#[test]
+fn the_correction_overflows() {
+    let (most, inf) = (f64::MAX, f64::INFINITY);
+    gives(&[most, 0.0, 1.0, most, 0.0, -most], &[most, most, most, inf, inf, inf]);
+    gives(&[1.5e308, 1e308, 0.5e308, -1.5e308], &[1.5e308, inf, inf, inf]);
+    gives(&[-1e308, -1.5e308, -1.7e308, 1.5e308, 0.0, 1.5e308, 0.0, 1.5e308], &[-1e308; 8]);
+}
+
+/// Generated values for the step.
+fn counters() -> Vec<Vec<f64>> {
+    let mut rng = Rng::new(1);
+    let cases = (0..60_000).map(|_| cases::accepted(&mut rng, Call::Prepare));
+    let values = cases.filter(|case| case.pre == ONCE).map(|case| case.values);
+    values.map(|values| values.into_iter().map(f64::from_bits).collect()).collect()
+}
+
+fn once(values: &[f64]) -> Vec<f64> {
+    let mut values = values.to_vec();
+    model::resets_once(&mut values);
+    values
+}
+
+/// The ported step, as the Rust has it.
+fn ported(values: &[f64]) -> Vec<f64> {
+    let mut values = values.to_vec();
+    remove_counter_resets(&mut values);
+    values
+}
+
+#[test]
+fn the_ported_step_where_nothing_falls() {
+    for mut values in counters() {
+        values.sort_by(f64::total_cmp);
+        assert_eq!(all_bits(&once(&values)), all_bits(&ported(&values)));
+    }
+}
+
+/// At the first fall the corrected value before is still the raw one.
+#[test]
+fn the_ported_step_up_to_the_first_fall() {
+    for mut values in counters() {
+        let before = values.windows(2).position(|pair| pair[1] < pair[0]);
+        values.truncate(before.map_or(values.len(), |before| before + 2));
+        assert_eq!(all_bits(&once(&values)), all_bits(&ported(&values)));
+    }
+}
+
+/// How much the correction grows from one raw value to the next.
+fn growth(p: f64, v: f64) -> f64 {
+    if v >= p {
+        0.0
+    } else if 8.0 * (p - v) < p {
+        p - v
+    } else {
+        p
+    }
+}
+
+/// The correction at each value.
+fn corrections(values: &[f64]) -> Vec<f64> {
+    let mut corrections = vec![0.0; values.len()];
+    for i in 1..values.len() {
+        corrections[i] = corrections[i - 1] + growth(values[i - 1], values[i]);
+    }
+    corrections
+}
+
+/// Each value with its correction, before any is lifted.
+fn sums(values: &[f64]) -> Vec<f64> {
+    values.iter().zip(corrections(values)).map(|(v, correction)| v + correction).collect()
+}
+
+#[test]
+fn each_output_is_the_greatest_sum_so_far() {
+    for values in counters() {
+        let mut greatest = f64::NEG_INFINITY;
+        for (output, sum) in once(&values).iter().zip(sums(&values)) {
+            greatest = greatest.max(sum);
+            assert_eq!(output.to_bits(), greatest.to_bits());
+        }
+    }
+}
+
+fn by_an_eighth(p: f64, v: f64) -> bool {
+    p > 0.0 && 8.0 * (p - v) == p
+}
+
+#[test]
+fn restarts_of_every_kind_are_asked() {
+    let counters = counters();
+    let many = |is: &dyn Fn(&[f64]) -> bool| counters.iter().filter(|c| is(c)).count() > 100;
+    let pairs = |values: &[f64], is: fn(f64, f64) -> bool| {
+        values.windows(2).filter(|pair| is(pair[0], pair[1])).count()
+    };
+    let pair = |is| many(&|values| pairs(values, is) > 0);
+    assert!(many(&|values| values.is_empty()) && many(&|values| values.len() == 1));
+    // To zeros of both signs, and from one to the other.
+    assert!(pair(|p, v| p > 0.0 && v.to_bits() == 0.0f64.to_bits()));
+    assert!(pair(|p, v| p > 0.0 && v.to_bits() == (-0.0f64).to_bits()));
+    assert!(pair(|p, v| p == v && p.to_bits() != v.to_bits()));
+    assert!(many(&|values| values.first().is_some_and(|v| v.to_bits() == (-0.0f64).to_bits())));
+    // By an eighth, by just less, by just more, by clearly less and more.
+    assert!(pair(by_an_eighth) && pair(|p, v| p.is_subnormal() && by_an_eighth(p, v)));
+    assert!(pair(|p, v| by_an_eighth(p, v.next_down())));
+    assert!(pair(|p, v| by_an_eighth(p, v.next_up())));
+    assert!(pair(|p, v| v < p && 10.0 * (p - v) < p));
+    assert!(pair(|p, v| 0.0 < v && v < p && 5.0 * (p - v) > p));
+    // Jumps, restarts upon restarts, falls below zero, falls among subnormals.
+    assert!(pair(|p, v| p > 0.0 && v > 1000.0 * p));
+    assert!(many(&|values| pairs(values, |p, v| p > 0.0 && v < p) > 5));
+    assert!(pair(|p, v| v < p && p < 0.0) && pair(|p, v| p > 0.0 && v < 0.0));
+    assert!(pair(|p, v| p.is_subnormal() && v < p));
+    // Differences and corrections that overflow.
+    assert!(pair(|p, v| v - p == f64::NEG_INFINITY));
+    for infinity in [f64::INFINITY, f64::NEG_INFINITY] {
+        assert!(many(&|values| corrections(values).last() == Some(&infinity)));
+    }
+    // Sums that fall: below zero, and by rounding alone.
+    let falls = |values: &[f64], from: f64| {
+        let sums = sums(values);
+        (1..sums.len()).any(|i| sums[i] < sums[i - 1] && values[i].min(values[i - 1]) >= from)
+    };
+    assert!(many(&|values| falls(values, f64::MIN)) && many(&|values| falls(values, 0.0)));
 }

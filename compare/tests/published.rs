@@ -1,9 +1,11 @@
 //! Figures that VictoriaMetrics states for these rollups in its own tests, mostly on twelve readings.
-//! They were written down from memory, without a copy at hand: a figure that the Rust gives to the
-//! last digit is taken as remembered well; the two that it does not give are marked.
+//! They were written down from memory, without a copy at hand: a figure that the Rust, or the model of
+//! what it does not have, gives to the last digit is taken as remembered well; the two that the Rust
+//! does not give are marked.
 
 mod helpers;
 
+use compare::model;
 use helpers::*;
 use original::exposed::*;
 
@@ -199,4 +201,22 @@ fn steps() {
     let mut values = VALUES;
     remove_counter_resets(&mut values);
     all_same(&values[..6], &[123., 157., 324., 625., 1283., 2546.]);
+}
+
+/// One correction a restart, as the model has it.
+#[test]
+fn resets_once() {
+    let stated = [
+        (
+            &VALUES[..],
+            &[123., 157., 167., 188., 221., 255., 320., 332., 364., 396., 398., 398.][..],
+        ),
+        (&[-100., -200., -300., -400.], &[-100.; 4]),
+        (&[100., 95., 120., 119., 139., 50.], &[100., 100., 125., 125., 145., 195.]),
+    ];
+    for (values, figures) in stated {
+        let mut values = values.to_vec();
+        model::resets_once(&mut values);
+        all_same(&values, figures);
+    }
 }

@@ -1,6 +1,7 @@
 //! Times of the port beside the Rust, in milliseconds, best of several; build it with `--profile
 //! timed`. A table for each kind of series. `fair` is the Rust's time, charged with the work of the
-//! port's call that the Rust does not do, over the port's time: above 1 the port is ahead.
+//! port's call that the Rust does not do, over the port's time: above 1 the port is ahead. For the step
+//! that the Rust does not have, the column `Rust` has the model's plain loop.
 //! `bench prepare [READINGS]`: each preparing step beside a copy and the Rust's pre-function, which is
 //! charged with the port's checks of the series.
 //! `bench run [READINGS]`: the port's run of each rollup beside the Rust's `do_internal`, over a few

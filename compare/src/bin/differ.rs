@@ -1,7 +1,7 @@
 //! `differ WHAT --cases N --seed S` compares the port with its judge on N generated calls; WHAT is
 //! prepare, settle, run or settled_run, which the Rust judges, crossings or nearest, which the model
-//! judges, or cuts: accepted runs with the settled runs that they are cut into, or all (what the
-//! archive has the functions for).
+//! judges as it does the step that the Rust does not have, or cuts: accepted runs with the settled runs
+//! that they are cut into, or all (what the archive has the functions for).
 
 use std::collections::BTreeMap;
 use std::process::exit;

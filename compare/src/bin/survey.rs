@@ -1,6 +1,6 @@
 //! `survey [--cases N] [--seed S]` asks the Rust alone, on N accepted runs and settled runs: whether
-//! it does what `rules` writes out, where a departure applies, and whether it panics elsewhere. It needs
-//! no port.
+//! it does what `rules` writes out, where a departure applies, and whether it panics elsewhere. Where the
+//! step is not the Rust's, its rollups are asked on the model's values. It needs no port.
 
 use std::collections::BTreeMap;
 use std::process::exit;

@@ -6,8 +6,9 @@ use original::exposed::Settings;
 use super::series::TIME_LIMIT;
 use super::{crossings, floats, nearest, series, settings};
 use crate::call::{Call, Case, UNSET};
+use crate::judge::{self, STEPS};
 use crate::rng::Rng;
-use crate::{judge, rows};
+use crate::rows;
 
 pub(super) const MOST: i64 = rows::MOST as i64;
 
@@ -19,7 +20,7 @@ pub fn case(rng: &mut Rng, call: Call) -> Case {
     }
 }
 
-/// A call that the Rust judges.
+/// A call that the Rust judges, but for the step that it does not have.
 fn of_the_rust(rng: &mut Rng, call: Call) -> Case {
     let mut case = accepted(rng, call);
     let spoils = rng.pick(&[0, 0, 0, 1, 1, 2]);
@@ -29,16 +30,17 @@ fn of_the_rust(rng: &mut Rng, call: Call) -> Case {
     case
 }
 
-/// A call that the Rust judges and that is accepted.
+/// Such a call that is accepted.
 pub fn accepted(rng: &mut Rng, call: Call) -> Case {
     let n = series::length(rng);
-    let (timestamps, values) = series::series(rng, n);
+    let step = rng.below(STEPS.len() as u64) as usize;
+    let (timestamps, values) = series::for_step(rng, step, n);
     let most = rng.pick(&[1, 2, 3, 10, 40]);
     let settings = settings::settings(rng, &timestamps, most);
     let mut case = Case {
         timestamps,
         values: values.iter().map(|v| v.to_bits()).collect(),
-        pre: rng.below(5) as u32,
+        pre: step as u32,
         rollup: rng.below(48) as u32,
         first: floats::parameter(rng),
         second: floats::parameter(rng),
@@ -139,7 +141,7 @@ fn spoil(rng: &mut Rng, call: Call, case: &mut Case) {
         12 => case.dst_values.truncate(case.dst_values.len().saturating_sub(1)),
         13 => case.prepared.truncate(n.saturating_sub(1) as usize),
         14 => case.work.truncate((2 * n).saturating_sub(1) as usize),
-        0 if rng.once_in(2) => case.pre = rng.pick(&[5, 6, u32::MAX]),
+        0 if rng.once_in(2) => case.pre = rng.pick(&[6, 7, u32::MAX]),
         0 => case.rollup = rng.pick(&[48, 49, u32::MAX]),
         _ => {}
     }

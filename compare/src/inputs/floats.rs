@@ -125,6 +125,63 @@ fn counter(rng: &mut Rng, last: f64) -> f64 {
     }
 }
 
+/// What a counter counts by: numbers that stay exact or round, subnormals, and numbers so huge that a few
+/// restarts overflow.
+const UNITS: [f64; 7] = [
+    1.0,
+    0.1,
+    5e-324,
+    4e-323,
+    f64::MIN_POSITIVE / 8.0,
+    f64::MAX / 20.0,
+    // 2 to the power 1018.
+    f64::from_bits(0x7f90000000000000),
+];
+
+/// n values of a counter that restarts now and then or all the time, all finite. Some count downwards:
+/// there each count is a fall, and the correction falls.
+pub fn restarts(rng: &mut Rng, n: usize) -> Vec<f64> {
+    let unit = rng.pick(&UNITS) * rng.pick(&[1.0, 1.0, -1.0]);
+    let restart_in = rng.pick(&[1, 2, 3, 8]);
+    let first = unit * rng.between(0, 40) as f64;
+    let mut next = restarted(rng, first, unit);
+    let mut values = vec![];
+    for _ in 0..n {
+        let last = next.clamp(f64::MIN, f64::MAX);
+        values.push(last);
+        let restarts = rng.once_in(restart_in);
+        next = if restarts { restarted(rng, last, unit) } else { counted(rng, last, unit) };
+    }
+    values
+}
+
+/// From either zero, from a few units on either side of it, from the other sign; or lower by about an
+/// eighth, by any part, by the least part.
+fn restarted(rng: &mut Rng, last: f64, unit: f64) -> f64 {
+    let without_an_eighth = last * 0.875;
+    match rng.below(12) {
+        0 => 0.0,
+        1 => -0.0,
+        2 | 3 => unit * rng.between(-5, 20) as f64,
+        4 => -last,
+        5 | 6 => without_an_eighth,
+        7 => without_an_eighth.next_up(),
+        8 => without_an_eighth.next_down(),
+        9 => last.next_down(),
+        _ => last * rng.pick(&[0.5, 0.75, 0.9, 0.99]),
+    }
+}
+
+/// On by some units, by the least part, by a jump, or not at all.
+fn counted(rng: &mut Rng, last: f64, unit: f64) -> f64 {
+    match rng.below(12) {
+        0 => last,
+        1 => last.next_up(),
+        2 => last + unit * 1e6,
+        _ => last + unit * rng.between(0, 20) as f64,
+    }
+}
+
 /// A relative change of about 1e-12, or of a few units in the last place, or none.
 fn near_tolerance(rng: &mut Rng) -> f64 {
     let size = rng.pick(&[0.0, 1e-12, 0.99e-12, 1.01e-12, 4.5e-13, 2e-12, 2.3e-16]);

@@ -1,6 +1,7 @@
 //! Series that are accepted: times within ±2^50 that rise, finite values.
 
 use super::floats;
+use crate::judge::STEPS;
 use crate::rng::Rng;
 
 pub const TIME_LIMIT: i64 = 1 << 50;
@@ -61,6 +62,14 @@ fn step(rng: &mut Rng, interval: i64, jitter: i64, gap_in: u64) -> i64 {
 /// Times and values of one length.
 pub fn series(rng: &mut Rng, n: usize) -> (Vec<i64>, Vec<f64>) {
     (times(rng, n), floats::run(rng, n))
+}
+
+/// A series for a preparing step: half of those for a counter step are counters that restart.
+pub fn for_step(rng: &mut Rng, step: usize, n: usize) -> (Vec<i64>, Vec<f64>) {
+    match STEPS[step] {
+        "resets" | "resets_once" if rng.once_in(2) => (times(rng, n), floats::restarts(rng, n)),
+        _ => series(rng, n),
+    }
 }
 
 /// The kinds of series that times are taken on, by name.

@@ -43,7 +43,7 @@ fn put(rng: &mut Rng, list: &mut List, record: &Record) {
 /// A record's values and times, and the rest of it.
 type Parts = (Vec<f64>, Vec<i64>, Record<'static>);
 
-/// A record that `do_internal` makes of a prepared series.
+/// A record that `do_internal` makes of a series prepared by one of the Rust's five steps.
 fn own(rng: &mut Rng) -> Parts {
     let n = rng.between(0, 12) as usize;
     let (timestamps, mut values) = series::series(rng, n);

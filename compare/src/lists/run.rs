@@ -22,14 +22,14 @@ const REFUSALS: std::ops::RangeInclusive<u64> = 3..=12;
 
 pub fn make(rng: &mut Rng, list: &mut List) {
     for case in 0..450 {
-        let n = rng.between(0, 14) as usize;
-        let (timestamps, values) = series::series(rng, n);
-        accepted(rng, list, case % judge::STEPS.len(), &timestamps, &values, 7);
+        let (step, n) = (case % judge::STEPS.len(), rng.between(0, 14) as usize);
+        let (timestamps, values) = series::for_step(rng, step, n);
+        accepted(rng, list, step, &timestamps, &values, 7);
     }
     for case in 0..30 {
-        let n = rng.between(16, 40) as usize;
-        let (timestamps, values) = series::series(rng, n);
-        accepted(rng, list, case % judge::STEPS.len(), &timestamps, &values, 12);
+        let (step, n) = (case % judge::STEPS.len(), rng.between(16, 40) as usize);
+        let (timestamps, values) = series::for_step(rng, step, n);
+        accepted(rng, list, step, &timestamps, &values, 12);
     }
     // Windows of zeros, where all three departures come into play.
     for _ in 0..10 {
