@@ -45,19 +45,19 @@ sum-not-below false a true b c C h = round-not-below binary64 (a + b) c
 sum-not-below true a false b c C h = rw (round-zero true (a + b) c C (omega (arith, ltb-false 0 (a + b) h)))
 sum-not-below true a true b c C h = by-test (ltb a b) (λ e. rw e (round-not-below binary64 (b - a) c)) (λ e. rw (e, h) (round-not-below binary64 (a - b) c))
 
-pub not-below : (x y : Float) → lt x y ≡ false → lt (sub binary64 x y) (zeroOf false) ≡ false
+pub difference-not-below : (x y : Float) → lt x y ≡ false → lt (sub binary64 x y) (zeroOf false) ≡ false
 unfolding lt sub add neg
-not-below nan y h = refl
-not-below (inf s) nan h = refl
-not-below (inf true) (inf true) h = refl
-not-below (inf true) (inf false) h = absurd (true≢false h)
-not-below (inf false) (inf true) h = refl
-not-below (inf false) (inf false) h = refl
-not-below (inf s) (fin t n d) h = h
-not-below (fin s m e) nan h = refl
-not-below (fin s m e) (inf true) h = refl
-not-below (fin s m e) (inf false) h = absurd (true≢false h)
-not-below (fin s m e) (fin t n d) h = sum-not-below s (m * up e * down d) t (n * up d * down e) (down e * down d) (mul-pos (down-pos e) (down-pos d)) h
+difference-not-below nan y h = refl
+difference-not-below (inf s) nan h = refl
+difference-not-below (inf true) (inf true) h = refl
+difference-not-below (inf true) (inf false) h = absurd (true≢false h)
+difference-not-below (inf false) (inf true) h = refl
+difference-not-below (inf false) (inf false) h = refl
+difference-not-below (inf s) (fin t n d) h = h
+difference-not-below (fin s m e) nan h = refl
+difference-not-below (fin s m e) (inf true) h = refl
+difference-not-below (fin s m e) (inf false) h = absurd (true≢false h)
+difference-not-below (fin s m e) (fin t n d) h = sum-not-below s (m * up e * down d) t (n * up d * down e) (down e * down d) (mul-pos (down-pos e) (down-pos d)) h
 
 -- ---- a sum with +0.0
 

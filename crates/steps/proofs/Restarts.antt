@@ -13,7 +13,7 @@ use lib.Ieee.{Float, nan, inf, fin, binary64, add, fits, isNan, lt, ofBits}
 use lib.Ieee.Bits.{ofBits-fits}
 use lib.Ieee.Fits.{add-fits, inf-fits}
 use Rattle.ieee.specs.Patterns.{floats}
-use Rattle.ieee.proofs.Differences.{not-below, plus-zero-rank}
+use Rattle.ieee.proofs.Differences.{difference-not-below, plus-zero-rank}
 use Rattle.ieee.proofs.Numbers.{finite-number, finite-add-number}
 use Rattle.ieee.proofs.Order.{le-not-lt, lt-rank}
 use Rattle.ieee.proofs.Rank.{rank}
@@ -26,7 +26,7 @@ use Rattle.steps.specs.Steps.{plusZero, begun, corrected, counterAfter, 
 
 grown-stays : (c p v : Float) → lt v p ≡ false → grown c p v ≡ c
 unfolding grown ofBits
-grown-stays c p v h = rw (not-below v p h)
+grown-stays c p v h = rw (difference-not-below v p h)
 
 -- a value that is not below the one before leaves the correction as it is
 pub correction-stays : (s : Counter) (v : Float) → lt v (s .value) ≡ false → counterAfterOnce s v .correction ≡ s .correction
