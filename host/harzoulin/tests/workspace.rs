@@ -56,6 +56,24 @@ fn a_restart_again_and_once() {
     assert_eq!(first[0].to_bits(), 0);
 }
 
+/// What VictoriaMetrics' own tests state of its counter adjustment, which corrects a restart once.
+#[test]
+fn published_adjustments() {
+    let mut workspace = Workspace::new();
+    let stated: [(&[f64], &[f64]); 3] = [
+        (
+            &[123., 34., 44., 21., 54., 34., 99., 12., 44., 32., 34., 34.],
+            &[123., 157., 167., 188., 221., 255., 320., 332., 364., 396., 398., 398.],
+        ),
+        (&[-100., -200., -300., -400.], &[-100.; 4]),
+        (&[100., 95., 120., 119., 139., 50.], &[100., 100., 125., 125., 145., 195.]),
+    ];
+    for (values, adjusted) in stated {
+        let times: Vec<i64> = (0..values.len() as i64).collect();
+        assert_eq!(workspace.prepare(&times, values, Step::ResetsOnce), Ok(adjusted));
+    }
+}
+
 /// Refused calls leave the memory as it was, at any row.
 #[test]
 fn a_refusal_needs_no_memory() {
