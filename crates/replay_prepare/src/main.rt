@@ -1,5 +1,5 @@
 // Replays the list `prepare`. A case's words are the preparing step, the number of readings, their times,
-// their values, and the values as the Rust prepared them.
+// their values, and the values as the Rust prepared them, or the model where the Rust does not have the step.
 use libc::STDIN_FILENO;
 use replay::Case;
 use replay::Tally;

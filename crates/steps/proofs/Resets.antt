@@ -32,28 +32,11 @@ fine (inf false) nan = false
 fine (inf false) (inf t) = not t
 fine (inf false) (fin t n d) = true
 
-not-nan : (x : Float) → not (isNan x) ≡ true → Number x
-unfolding isNan
-not-nan nan h = absurd (false≢true h)
-not-nan (inf s) h = refl
-not-nan (fin s m e) h = refl
-
 fine-correction : (c p : Float) → fine c p ≡ true → Number c
 unfolding isNan
 fine-correction nan p h = absurd (false≢true h)
 fine-correction (inf s) p h = refl
 fine-correction (fin s m e) p h = refl
-
-fine-output : (c p : Float) → fine c p ≡ true → Number p
-unfolding isNan
-fine-output nan p h = absurd (false≢true h)
-fine-output (fin s m e) p h = not-nan p h
-fine-output (inf true) nan h = absurd (false≢true h)
-fine-output (inf true) (inf t) h = refl
-fine-output (inf true) (fin t n d) h = refl
-fine-output (inf false) nan h = absurd (false≢true h)
-fine-output (inf false) (inf t) h = refl
-fine-output (inf false) (fin t n d) h = refl
 
 lifted-number : (p w : Float) → Number p → Number w → Number (lifted p w)
 unfolding lifted
