@@ -38,7 +38,9 @@ enum harzoulin_step {
     HARZOULIN_STEP_RESETS_ONCE = 5
 };
 
-/* The rollups of docs/ROLLUPS.md, for rollup. */
+/* The rollups of docs/ROLLUPS.md, for rollup. UNTIL_NEXT, which the original does not have, is the
+ * seconds from an output time to the first reading after it, whatever the window holds, and NaN
+ * where there is none. */
 enum harzoulin_rollup {
     HARZOULIN_ROLLUP_AVG = 0,
     HARZOULIN_ROLLUP_MIN = 1,
@@ -87,7 +89,8 @@ enum harzoulin_rollup {
     HARZOULIN_ROLLUP_INTEGRATE = 44,
     HARZOULIN_ROLLUP_QUANTILE = 45,
     HARZOULIN_ROLLUP_PREDICT_LINEAR = 46,
-    HARZOULIN_ROLLUP_HOLT_WINTERS = 47
+    HARZOULIN_ROLLUP_HOLT_WINTERS = 47,
+    HARZOULIN_ROLLUP_UNTIL_NEXT = 48
 };
 
 /* What a function returns: the lowest number that applies to it, but 28 before all others. Ends of

@@ -7,5 +7,6 @@ pub mod Stretches
 pub mod Numbered
 pub mod Table
 pub mod Requested
+pub mod Waits
 pub mod Quantile
 mod Examples

@@ -1,5 +1,6 @@
 -- Two series hand a rollup equal records at an output time exactly when they agree on what `Agree` lists: a record's fields are read off what they agree on,
--- and a value that is no NaN is told from the NaN that stands for none, as a time later than the limit is from the limit. Equal records give equal answers.
+-- and a value that is no NaN is told from the NaN that stands for none, as a time later than the limit is from the limit;
+-- whether there is a next reading tells its time from the 0 that stands for none. Equal records give equal answers.
 -- Assumes nothing.
 use mathlib.Core.Path.{_≡_, refl, sym, ap, _∙_, subst}
 use Prim.Native.Nat.{ℕ}
@@ -23,7 +24,7 @@ use Rattle.series.proofs.Accepted.{fails}
 use Rattle.times.specs.Readings.{filter, consIf}
 use Rattle.times.proofs.Order.{le-trans, lt-not-le, sub-le}
 use Rattle.outputs.specs.Figures.{answer}
-use Rattle.record.specs.Record.{Reading, inside, before, after, lastIfAny, window, earlier, later, next, timeOf, bitsOf, valueOf, onlyIf, orNan, laterThan, reached, where-any, predecessor, Record, recordAt}
+use Rattle.record.specs.Record.{Reading, inside, before, after, lastIfAny, window, earlier, later, next, some?, timeOf, bitsOf, valueOf, onlyIf, orNan, laterThan, reached, where-any, predecessor, Record, recordAt}
 use Rattle.claims.specs.Agree.{Agree, Bits, NoNan, Prepared, recordBits}
 use Rattle.claims.proofs.Prepared.{Number, Numbers, prepared-numbers}
 
@@ -87,6 +88,13 @@ module _ (limit : ℤ) where
   told-time (some u) none h = sym (told-one u (ltZ limit u) refl (sym h))
   told-time (some u) (some v) h = told-both u v (ltZ limit u) (ltZ limit v) refl refl h
 
+-- a time is told from the 0 that stands for none by whether there is a reading
+told-next : (x y : Option Reading) → some? x ≡ some? y → Option·getD (timeOf x) (pos 0) ≡ Option·getD (timeOf y) (pos 0) → timeOf x ≡ timeOf y
+told-next none none e h = refl
+told-next none (some y) e h = cc
+told-next (some x) none e h = cc
+told-next (some x) (some y) e h = ap some h
+
 -- ---- a reading is later than t − w exactly when it is in the window or after t
 
 later-is : (w t : ℤ) (x : Reading) → leZ (pos 0) w ≡ true → after (t -ℤ w) x ≡ inside w t x || after t x
@@ -97,10 +105,6 @@ later-is w t x h = go (ltZ (t -ℤ w) (x .time)) (leZ (x .time) t) refl refl
     go true false e f = rw (lt-not-le, f)
     go false true e f = rw (lt-not-le, f)
     go false false e f = cc (f, le-trans (x .time) (t -ℤ w) t (not-false (leZ (x .time) (t -ℤ w)) (sym (lt-not-le (t -ℤ w) (x .time)) ∙ e)) (sub-le t w h))
-
-abbrev some? : {A : Type 0} → Option A → Bool
-some? none = false
-some? (some x) = true
 
 some-bits : (x : Option Reading) → some? (bitsOf x) ≡ some? x
 some-bits none = refl
@@ -160,7 +164,7 @@ module _ (a b : List Reading) (w r t : ℤ) (h : leZ (pos 0) w ≡ true) where
   agreement-gives-records g =
       let p : predecessor a w r t ≡ predecessor b w r t =
       where-same (later a w t) (later b w t) (reached a w r t) (reached b w r t) (same-later (g .same-window) (g .same-next)) (g .same-reached) in
-      cc (g .same-window, g .same-earlier, g .same-next)
+      cc (g .same-window, g .same-earlier, g .same-next, g .same-next-time, some-bits (next a w t), some-bits (next b w t))
 
   records-give-agreement : Numbers a → Numbers b → recordAt a w r t ≡ recordAt b w r t → Agree a b w r t
   records-give-agreement na nb e =
@@ -172,6 +176,8 @@ module _ (a b : List Reading) (w r t : ℤ) (h : leZ (pos 0) w ≡ true) where
         same-earlier =
             told (earlier a w t) (earlier b w t) (earlier-number a w t na) (earlier-number b w t nb) (ap (λ (x : Record). x .arg .«real_prev_value») e);
         same-next = ns;
+        same-next-time =
+            told-next (next a w t) (next b w t) (ap (λ (x : Record). x .arg .«has_next») e) (ap (λ (x : Record). x .arg .«next_timestamp») e);
         same-reached = λ i.
             where-told (t -ℤ w -ℤ r) (later a w t) (later b w t) (timeOf (earlier a w t)) (timeOf (earlier b w t)) (same-later ws ns) i
             (ap (λ (x : Record). x .arg .«prev_timestamp») e);
@@ -193,6 +199,8 @@ fromBits x = record {
     «prev_timestamp» = x .prev-timestamp;
     «real_prev_value» = ofBits binary64 (x .real-prev-value);
     «real_next_value» = ofBits binary64 (x .real-next-value);
+    «has_next» = x .has-next;
+    «next_timestamp» = x .next-timestamp;
     «curr_timestamp» = x .curr-timestamp;
     window = x .window;
   };

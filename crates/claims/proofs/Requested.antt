@@ -2,11 +2,14 @@
 -- Assumes nothing.
 use mathlib.Core.Path.{_≡_, refl}
 use mathlib.Core.List.{map}
-use lib.Ieee.{add, lt, mul, neg, ofBits, ofInt, sub, toBits}
+use lib.Ieee.{add, div, lt, mul, neg, ofBits, ofInt, sub, toBits}
+use Rattle.times.specs.Readings.{filter}
 use Rattle.steps.specs.Steps.{corrected, grown, lifted, outputsFrom, preparedOf}
+use Rattle.rollup.specs.Eval.{evalOf}
+use Rattle.time_rollups.specs.UntilNext.{untilNextOf}
 use Rattle.claims.specs.Requested.{requested}
-use Rattle.claims.specs.Table.{Case}
+use Rattle.claims.specs.Table.{Case, fromSecond}
 
 pub requested-hold : map (λ (x : Case). x .computed) requested ≡ map (λ (x : Case). x .stated) requested
-unfolding add lt mul neg ofBits ofInt sub toBits corrected grown lifted outputsFrom preparedOf
+unfolding add div lt mul neg ofBits ofInt sub toBits filter corrected grown lifted outputsFrom preparedOf evalOf untilNextOf fromSecond
 requested-hold = refl

@@ -3,7 +3,7 @@
 use mathlib.Core.List.{List, [], _∷_}
 use mathlib.Core.Option.{IsSome}
 use mathlib.Core.Path.{_≡_}
-use mathlib.Core.Bool.{false}
+use mathlib.Core.Bool.{Bool, false}
 use Prim.Native.Nat.{ℕ}
 use lib.IntN.{ℤ}
 use lib.Ieee.{binary64, isNan, ofBits, toBits}
@@ -12,7 +12,7 @@ use Rattle.series.specs.Rows.{seriesChecked}
 use Rattle.steps.specs.Steps.{preparedOf}
 use Rattle.series.specs.declared.refusal.Checked.the-variants.{Accepted}
 use Rattle.steps.specs.declared.PreFunction.{PreFunction}
-use Rattle.record.specs.Record.{Reading, Record, readings, window, earlier, later, next, bitsOf, reached}
+use Rattle.record.specs.Record.{Reading, Record, readings, window, earlier, later, next, timeOf, bitsOf, reached}
 
 -- a prepared series: an accepted series' times with the values the chosen step gives them
 pub record Prepared (s : List Reading) : Type 0 where
@@ -33,6 +33,8 @@ pub record Bits : Type 0 where
   pub prev-timestamp : ℤ
   pub real-prev-value : ℕ
   pub real-next-value : ℕ
+  pub has-next : Bool
+  pub next-timestamp : ℤ
   pub curr-timestamp : ℤ
   pub window : ℤ
   pub readings : List Reading
@@ -43,6 +45,8 @@ recordBits x = record {
   prev-timestamp = x .arg .«prev_timestamp»;
   real-prev-value = toBits binary64 (x .arg .«real_prev_value»);
   real-next-value = toBits binary64 (x .arg .«real_next_value»);
+  has-next = x .arg .«has_next»;
+  next-timestamp = x .arg .«next_timestamp»;
   curr-timestamp = x .arg .«curr_timestamp»;
   window = x .arg .window;
   readings = x .window;
@@ -56,5 +60,7 @@ pub record Agree (a b : List Reading) (w r t : ℤ) : Type 0 where
   pub same-earlier : bitsOf (earlier a w t) ≡ bitsOf (earlier b w t)
   -- on whether any stands after t, and the first such value
   pub same-next : bitsOf (next a w t) ≡ bitsOf (next b w t)
+  -- and the first such time
+  pub same-next-time : timeOf (next a w t) ≡ timeOf (next b w t)
   -- and, if any is later than t − window, on whether that earlier one is later than t − window − reach, and then its time
   pub same-reached : IsSome (later a w t) → reached a w r t ≡ reached b w r t

@@ -6,4 +6,5 @@ pub mod Piece
 pub mod Numbered
 pub mod Table
 pub mod Requested
+pub mod Waits
 pub mod Quantile

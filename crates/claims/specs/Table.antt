@@ -44,7 +44,7 @@ abbrev series : List Float → List Reading
 series xs = fromSecond 1 xs
 
 -- a rollup of a series at t, with a window and a reach of 5000
-abbrev rolled : RollupHandler → List Float → ℕ → ℕ → List ℕ
+abbrev pub rolled : RollupHandler → List Float → ℕ → ℕ → List ℕ
 rolled h xs w t = answer h (recordAt (series xs) (pos w) (pos 5000) (pos t)) ∷ []
 
 -- a rollup of values that are all in the window, with no other reading

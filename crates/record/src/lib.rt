@@ -5,7 +5,8 @@ use settings::course::Course;
 use window::types::RollupFuncArg;
 ghost use mathlib.Core.Path.{_≡_};
 ghost use mathlib.Core.Option.{Option·getD};
-ghost use lib.ListN.{length};
+ghost use lib.ListN.{length, getD};
+ghost use lib.IntN.{pos};
 ghost use lib.Signed.{ltZ};
 ghost use Rattle.times.specs.Later.{NotFalling};
 ghost use Rattle.record.specs.Index.{Found, valueAt, valueBefore, valueIf, predecessorAt};
@@ -20,6 +21,17 @@ fn value_at(values: &[u64], k: usize) -> f64
         ieee::value_of(values[k])
     } else {
         ieee::nan()
+    }
+}
+
+// The time at k, and 0 where there is none.
+fn time_at(timestamps: &[i64], k: usize) -> i64
+    ensures { λ r. ⌜ r ≡ getD (now (timestamps .entry)) k (pos 0) ⌝ }
+{
+    if k < timestamps.len() {
+        timestamps[k]
+    } else {
+        0
     }
 }
 
@@ -77,6 +89,8 @@ pub fn record_at(
         prev_timestamp,
         real_prev_value,
         real_next_value: value_at(values, j),
+        has_next: j < timestamps.len(),
+        next_timestamp: time_at(timestamps, j),
         curr_timestamp: t_end,
         window,
     }

@@ -1,6 +1,7 @@
 // Replays the list `rollup`. A case's words are the two parameters, the window record (previous value and
-// time, the values beside the window, output time, window), the number of readings, their times, their
-// values, a word that says where the port departs from the Rust, and the answers of the 48 rollups.
+// time, the values beside the window, whether a reading follows and its time, output time, window), the number of
+// readings, their times, their values, a word that says where the port departs from the Rust, and the answers of
+// the 49 rollups.
 use libc::STDIN_FILENO;
 use replay::Case;
 use replay::Tally;
@@ -17,7 +18,7 @@ ghost use lib.ListN.{length};
 ghost use Rattle.rollup.specs.Eval.{Ready};
 
 // The number of rollups.
-const ROLLUPS: u32 = 48;
+const ROLLUPS: u32 = 49;
 
 // How far from 0 a time may lie that a rollup is handed: 2^54.
 const RANGE: i64 = 0x40_0000_0000_0000;
@@ -53,8 +54,10 @@ fn record(text: &[u8]) -> RollupFuncArg {
         prev_timestamp: number(text, 3),
         real_prev_value: value(text, 4),
         real_next_value: value(text, 5),
-        curr_timestamp: number(text, 6),
-        window: number(text, 7),
+        has_next: number(text, 6) != 0,
+        next_timestamp: number(text, 7),
+        curr_timestamp: number(text, 8),
+        window: number(text, 9),
     }
 }
 
@@ -102,6 +105,9 @@ fn same(text: &[u8], at: usize, rfa: RollupFuncArg, values: &[u64], timestamps: 
     if !in_range(rfa.prev_timestamp) {
         return false;
     }
+    if !in_range(rfa.next_timestamp) {
+        return false;
+    }
     if !in_range(rfa.window) {
         return false;
     }
@@ -110,13 +116,13 @@ fn same(text: &[u8], at: usize, rfa: RollupFuncArg, values: &[u64], timestamps: 
 
 // The case that a text begins with.
 fn case(text: &[u8]) -> Case {
-    let n = vectors::word(text, 8 * STEP);
+    let n = vectors::word(text, 10 * STEP);
     if n > 64 {
         return replay::unread();
     }
     let n = n as usize;
-    let at = 9 * STEP + n * STEP;
-    let timestamps = vectors::times(text, 9 * STEP, n);
+    let at = 11 * STEP + n * STEP;
+    let timestamps = vectors::times(text, 11 * STEP, n);
     let values = vectors::words(text, at, n);
     // the word after the values says for which rollups the stored answer is the port's own and not the Rust's
     let stored = at + n * STEP + STEP;

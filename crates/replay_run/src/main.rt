@@ -1,6 +1,6 @@
 // Replays the list `run`. A case's words are the preparing step, the two parameters, the number of readings,
 // their times, their values, ten settings, the settled window, the reach, the count, a word that says where
-// the port departs from the Rust, the number of output times, and that many answers of each of the 48 rollups. Where
+// the port departs from the Rust, the number of output times, and that many answers of each of the 49 rollups. Where
 // a run is refused there are no output times, and the refusal's number and index stand for window and reach.
 // Where it is accepted, the settled run with the stored window and reach must give the same count and answers.
 use libc::STDIN_FILENO;
@@ -18,7 +18,7 @@ ghost use Prim.Native.Nat.{_≤_, _<_};
 ghost use lib.ListN.{length};
 
 // The number of rollups.
-const ROLLUPS: u32 = 48;
+const ROLLUPS: u32 = 49;
 
 // Whether what a run gave, and what it left as answers, is stored from a byte on, its answers from another.
 fn same_figures(text: &[u8], at: usize, from: usize, figures: Figures, answers: &[u64]) -> bool

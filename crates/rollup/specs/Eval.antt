@@ -21,8 +21,9 @@ use Rattle.time_rollups.specs.RollupFns.{tminOf, tmaxOf, tfirstOf, tlastOf, tla
 use Rattle.time_rollups.specs.Deriv.{derivSlowOf, derivFastOf, iderivOf}
 use Rattle.time_rollups.specs.Candlestick.{openOf, closeOf, highOf, lowOf}
 use Rattle.time_rollups.specs.Integrate.{integrateOf}
+use Rattle.time_rollups.specs.UntilNext.{untilNextOf}
 use Rattle.rollup.specs.declared.handler.RollupHandler.{RollupHandler}
-use Rattle.rollup.specs.declared.handler.RollupHandler.the-variants.{Avg, Min, Max, Mad, Median, Tmin, Tmax, Tfirst, Tlast, TlastChange, Sum, Sum2, RateOverSum, Range, Absent, Present, Count, Stddev, Stdvar, IncreasePure, Lifetime, Lag, ScrapeInterval, Changes, ChangesPrometheus, Increases, Resets, ModeOverTime, AscentOverTime, DescentOverTime, ZscoreOverTime, First, Default, Distinct, DerivSlow, DerivFast, Ideriv, Delta, DeltaPrometheus, Idelta, Open, Close, High, Low, Integrate, Quantile, PredictLinear, HoltWinters}
+use Rattle.rollup.specs.declared.handler.RollupHandler.the-variants.{Avg, Min, Max, Mad, Median, Tmin, Tmax, Tfirst, Tlast, TlastChange, Sum, Sum2, RateOverSum, Range, Absent, Present, Count, Stddev, Stdvar, IncreasePure, Lifetime, Lag, ScrapeInterval, Changes, ChangesPrometheus, Increases, Resets, ModeOverTime, AscentOverTime, DescentOverTime, ZscoreOverTime, First, Default, Distinct, DerivSlow, DerivFast, Ideriv, Delta, DeltaPrometheus, Idelta, Open, Close, High, Low, Integrate, Quantile, PredictLinear, HoltWinters, UntilNext}
 
 -- what a caller shows: times in range, as many of them as values, and a work slice of twice that
 pub record Ready (r : RollupFuncArg) (values : List ℕ) (ts : List ℤ) (room : ℕ) : Type 0 where
@@ -80,12 +81,13 @@ figureOf Integrate r xs ts = integrateOf r xs ts
 figureOf (Quantile phi) r xs ts = quantileOf phi xs
 figureOf (PredictLinear secs) r xs ts = predictLinearOf r xs ts secs
 figureOf (HoltWinters sf tf) r xs ts = holtWintersOf sf tf (r .«prev_value») xs
+figureOf UntilNext r xs ts = untilNextOf r
 
 -- its bits, with the one pattern for NaN
 unfoldable pub evalOf : RollupHandler → RollupFuncArg → List ℕ → List ℤ → ℕ
 evalOf h r values ts = toBits binary64 (figureOf h r (floats values) ts)
 
--- the table of rollup_config.rs
+-- the table of rollup_config.rs, and for the wait the one reading that it looks at, as for the lag
 abbrev pub scannedPerCall : RollupHandler → ℕ
 scannedPerCall Avg = 0
 scannedPerCall Min = 0
@@ -135,3 +137,4 @@ scannedPerCall Integrate = 0
 scannedPerCall (Quantile phi) = 0
 scannedPerCall (PredictLinear secs) = 0
 scannedPerCall (HoltWinters sf tf) = 0
+scannedPerCall UntilNext = 1

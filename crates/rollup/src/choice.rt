@@ -1,5 +1,5 @@
-// A rollup by its number: docs/ROLLUPS.md, from 0 on. The last three take parameters, the first of
-// the two where they take one.
+// A rollup by its number: docs/ROLLUPS.md, from 0 on. 45 to 47 take parameters, the first of the
+// two where they take one.
 
 use crate::handler::RollupHandler;
 ghost use mathlib.Core.Path.{_≡_};
@@ -64,6 +64,7 @@ pub fn rollup_of(number: u32, first: f64, second: f64) -> Chosen
         45 => Chosen::Rollup(RollupHandler::Quantile(first)),
         46 => Chosen::Rollup(RollupHandler::PredictLinear(first)),
         47 => Chosen::Rollup(RollupHandler::HoltWinters(first, second)),
+        48 => Chosen::Rollup(RollupHandler::UntilNext),
         _ => Chosen::None,
     }
 }

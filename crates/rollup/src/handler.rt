@@ -28,6 +28,7 @@ use time_rollups::rollup_fns::rollup_tlast_change;
 use time_rollups::rollup_fns::rollup_tmax;
 use time_rollups::rollup_fns::rollup_tmin;
 use time_rollups::rollup_fns::rollup_zscore_over_time;
+use time_rollups::until_next::rollup_until_next;
 use value_rollups::holt_winters::holt_winters_internal;
 use value_rollups::quantiles::rollup_quantile;
 use value_rollups::rollup_fns::rollup_absent;
@@ -105,6 +106,7 @@ pub enum RollupHandler {
     Quantile(f64),
     PredictLinear(f64),
     HoltWinters(f64, f64),
+    UntilNext,
 }
 
 // The chosen rollup's figure for a window.
@@ -167,6 +169,7 @@ fn figure(
         RollupHandler::Quantile(phi) => rollup_quantile(rfa, values, work, phi),
         RollupHandler::PredictLinear(secs) => rollup_predict_linear(rfa, values, timestamps, secs),
         RollupHandler::HoltWinters(sf, tf) => holt_winters_internal(rfa, values, sf, tf),
+        RollupHandler::UntilNext => rollup_until_next(rfa),
     }
 }
 
@@ -240,5 +243,6 @@ pub fn rollup_samples_scanned_per_call(handler: RollupHandler) -> usize
         RollupHandler::Quantile(_) => 0,
         RollupHandler::PredictLinear(_) => 0,
         RollupHandler::HoltWinters(_, _) => 0,
+        RollupHandler::UntilNext => 1,
     }
 }

@@ -25,6 +25,7 @@ AllInRange ts = (i : ℕ) → InRange (getD ts i (pos 0))
 pub record Ranged (r : RollupFuncArg) (ts : List ℤ) : Type 0 where
   pub curr : InRange (r .«curr_timestamp»)
   pub prev : InRange (r .«prev_timestamp»)
+  pub next : InRange (r .«next_timestamp»)
   pub window : InRange (r .window)
   pub times : AllInRange ts
 

@@ -23,6 +23,10 @@ pub struct RollupFuncArg {
     pub real_prev_value: f64,
     // The first value after the output time; NaN where there is none.
     pub real_next_value: f64,
+    // Whether a reading stands after the output time.
+    pub has_next: bool,
+    // The first time after the output time; 0 where there is none.
+    pub next_timestamp: i64,
     // The output time.
     pub curr_timestamp: i64,
     // The window's length.

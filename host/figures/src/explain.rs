@@ -59,8 +59,7 @@ impl Figure<'_> {
         line("predecessor", &self.predecessor(start, limit.0));
         line("in window", &format!("{} readings", end - start));
         self.inside(start..end).iter().for_each(|text| line("", text));
-        let after = if end < times.len() { self.reading(end) } else { "none".into() };
-        line("after", &after);
+        line("after", &self.after(end));
         let answer = Number(self.answer, None);
         line("answer", &format!("{answer}  bits {:#018x}", self.answer.to_bits()));
         out
@@ -90,6 +89,13 @@ impl Figure<'_> {
             Some(place) if times[place] <= limit => "none: out of reach".into(),
             Some(place) => self.reading(place),
         }
+    }
+
+    /// The reading at the place behind a window, and how long after the output time it stands.
+    fn after(&self, place: usize) -> String {
+        let Some(time) = self.series.times.get(place) else { return "none".into() };
+        let wait = format_duration(time - self.at);
+        format!("{}, {wait} after the output time", self.reading(place))
     }
 
     /// The readings of a window, the middle of a long one left out.

@@ -182,19 +182,20 @@ predecessor  1000  1
 in window    2 readings
              2000  2
              3000  4
-after        4000  4 from 8
+after        4000  4 from 8, 1s after the output time
 answer       6  bits 0x4018000000000000
 ";
     assert_eq!(text, lines);
     let late = output("explain --at 9000 --rollup lag --step 1s -", input);
     assert!(late.contains("predecessor  none: no reading after the window's start\n"));
+    assert!(late.contains("after        none\n"));
     assert!(late.ends_with("answer       NaN  bits 0x7ff8000000000000\n"));
 }
 
 #[test]
 fn list_has_every_rollup() {
     let text = output("list", "");
-    assert_eq!(text.lines().filter(|line| line.starts_with("  ")).count(), 48);
+    assert_eq!(text.lines().filter(|line| line.starts_with("  ")).count(), 49);
 }
 
 /// The demo gives what docs/ has of it, and each of its tables is that of the command line above.

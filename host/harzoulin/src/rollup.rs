@@ -1,4 +1,4 @@
-//! The 48 rollups. The table at the end of this file has a row for each, in the order of the
+//! The 49 rollups. The table at the end of this file has a row for each, in the order of the
 //! numbers by which the core knows them.
 
 use std::error::Error;
@@ -8,7 +8,7 @@ use std::str::FromStr;
 /// What a rollup is called and what it gives.
 #[derive(Debug)]
 pub struct About {
-    /// The name that it is written by: the source's, without `rollup_`.
+    /// The name that it is written by: the source's, if it is there, without `rollup_`.
     pub name: &'static str,
     /// The names of its parameters.
     pub parameters: &'static [&'static str],
@@ -196,7 +196,7 @@ macro_rules! rollups {
         }
 
         /// A row for each rollup, in the order of their numbers.
-        pub const ROLLUPS: [About; 48] = [
+        pub const ROLLUPS: [About; 49] = [
             $(About {
                 name: $name,
                 parameters: &[$($(stringify!($parameter)),+)?],
@@ -257,4 +257,5 @@ rollups! {
     "quantile" Quantile(phi) Level Value "the value that a share phi of the readings does not exceed"
     "predict_linear" PredictLinear(seconds) Slope Value "where the line of least squares is after that many seconds"
     "holt_winters" HoltWinters(smoothing, trend) Slope Value "double exponential smoothing"
+    "until_next" UntilNext Time Seconds "from the output time to the next reading, whatever the window holds"
 }

@@ -86,6 +86,7 @@ fn every_rollup_and_step() {
         for pre in Step::ALL {
             call.pre = pre;
             call.settings.samples_scanned_per_call = number as u64 % 3;
+            assert!(call.whole(&mut workspace).is_ok(), "{about}");
             call.same_for_every_number_of_jobs(&mut workspace);
         }
     }

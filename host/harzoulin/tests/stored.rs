@@ -1,6 +1,6 @@
 //! Runs of the original Rust, stored in run.txt: of the list that `vectors run` of compare/ writes,
 //! every eleventh of the first 450 cases. Its first line says what a case holds. The values of a step
-//! that the original does not have are the model's of compare/.
+//! and the answers of a rollup that the original does not have are the model's of compare/.
 
 use harzoulin::{ROLLUPS, Rollup, Settings, Settled, Step, Workspace, settle};
 

@@ -18,8 +18,8 @@ sub-limit c = let t = c .before .before .before .before .pre .1 .1 in limit-fits
 
 returns : tie.Need-returns
 returns c =
-    let s = c .before .before .before .before .before .before .before .before in
-    let p = c .before .before .before .predecessor-time in
+    let s = c .before .before .before .before .before .before .before .before .before in
+    let p = c .before .before .before .before .predecessor-time in
     let t = s .pre .1 .1 in
     let l = t .lengths in
     let us = s .args .timestamps .now in
@@ -30,15 +30,17 @@ returns c =
       record-is us vs (s .pre .0 .0) (s .pre .0 .1) w r (s .args .t-end) (s .args .i) (s .args .j) (s .pre .1 .0),
       limit-back (t .time) (l .window) (l .reach),
       toZ-ofZ w64 (p .result) (record { sfits = p .ok }),
+      toZ-ofZ w64 (c .time-at .result) (record { sfits = c .time-at .ok }),
       toZ-ofZ w64 _ (within-fits tt (t .time)),
       toZ-ofZ w64 _ (within-fits tt (l .window)),
       p .ensures,
-      c .before .before .value-before .ensures,
-      c .before .value-if .ensures,
-      c .value-at .ensures,
+      c .before .before .before .value-before .ensures,
+      c .before .before .value-if .ensures,
+      c .before .value-at .ensures,
+      c .time-at .ensures,
     )
 
 pub record-at-spec : {M : Type 1} → statement M
 record-at-spec =
     tie.close
-    (tie.spec sub-t-start sub-limit (λ c κs. search needs) (λ c κs. search needs) (λ c κs. search needs) (λ c κs. search needs) returns)
+    (tie.spec sub-t-start sub-limit (λ c κs. search needs) (λ c κs. search needs) (λ c κs. search needs) (λ c κs. search needs) (λ c κs. search needs) returns)

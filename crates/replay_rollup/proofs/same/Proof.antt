@@ -34,7 +34,8 @@ passed {r = false} t f e h = absurd (false≢true (sym h))
 
 answers-requires : tie.Need-answers-requires
 answers-requires c κs =
-    let second = c .before .before .before in
+    let third = c .before .before .before in
+    let second = third .before .before .before in
     let first = second .before .before .before in
     let told = first .before .before .before in
     let start = told .before .before .before .before .before in
@@ -44,9 +45,10 @@ answers-requires c κs =
       start .pre .0,
       record {
         ranged = record {
-          curr = passed (rfa .«curr_timestamp») (record { sfits = fields .1 .1 .1 .1 .0 .1 }) (first .before .in-range .ensures) (first .if1 .left);
+          curr = passed (rfa .«curr_timestamp») (record { sfits = fields .1 .1 .1 .1 .1 .1 .0 .1 }) (first .before .in-range .ensures) (first .if1 .left);
           prev = passed (rfa .«prev_timestamp») (record { sfits = fields .1 .0 .1 }) (second .before .in-range2 .ensures) (second .if2 .left);
-          window = passed (rfa .window) (record { sfits = fields .1 .1 .1 .1 .1 .0 .1 }) (c .before .in-range3 .ensures) (c .if3 .left);
+          next = passed (rfa .«next_timestamp») (record { sfits = fields .1 .1 .1 .1 .1 .0 .1 }) (third .before .in-range3 .ensures) (third .if3 .left);
+          window = passed (rfa .window) (record { sfits = fields .1 .1 .1 .1 .1 .1 .1 .0 .1 }) (c .before .in-range4 .ensures) (c .if4 .left);
           times = all-in _ accepted;
         };
         same = start .pre .1;
@@ -57,4 +59,4 @@ answers-requires c κs =
 pub same-spec : {M : Type 1} → statement M
 same-spec =
     tie.close
-    (tie.spec (λ c κs. search needs) (λ c. search needs) (λ c. search needs) (λ c. search needs) (λ c κs. search needs) (λ c. search needs) (λ c κs. search needs) (λ c. search needs) (λ c κs. search needs) (λ c. search needs) answers-requires (λ c. search needs))
+    (tie.spec (λ c κs. search needs) (λ c. search needs) (λ c. search needs) (λ c. search needs) (λ c κs. search needs) (λ c. search needs) (λ c κs. search needs) (λ c. search needs) (λ c κs. search needs) (λ c. search needs) (λ c κs. search needs) (λ c. search needs) answers-requires (λ c. search needs))
