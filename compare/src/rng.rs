@@ -7,6 +7,11 @@ impl Rng {
         Rng(seed)
     }
 
+    /// Another generator, for which nothing is drawn from this one.
+    pub fn aside(&self) -> Rng {
+        Rng(!self.0)
+    }
+
     pub fn bits(&mut self) -> u64 {
         self.0 = self.0.wrapping_add(0x9e3779b97f4a7c15);
         let z = (self.0 ^ (self.0 >> 30)).wrapping_mul(0xbf58476d1ce4e5b9);

@@ -1,20 +1,25 @@
-//! Crossings, nearest and the step that counts a restart once: what the requests state of them, asked of
-//! the model; and whether the generated calls reach what they are to reach.
+//! Crossings, nearest, the step that counts a restart once and the wait for the next reading: what the
+//! requests state of them, asked of the model; and whether the generated calls reach what they are to reach.
 
 use std::collections::BTreeSet;
 
 use compare::call::{Call, Case, Outcome, UNSET};
 use compare::inputs::cases;
-use compare::judge::STEPS;
+use compare::judge::{ROLLUPS, STEPS};
 use compare::rng::Rng;
-use compare::words::all_bits;
+use compare::words::{all_bits, NAN};
 use compare::{model, oracle, plain, rows};
-use original::exposed::remove_counter_resets;
+use original::exposed::{self, remove_counter_resets, Settings};
 
 const TIME_LIMIT: i64 = 1 << 50;
 
 /// The number of the step that counts a restart once.
 const ONCE: u32 = 5;
+
+/// The number of the rollup that gives the wait for the next reading.
+const UNTIL_NEXT: u32 = 48;
+
+const RUNS: [Call; 2] = [Call::Run, Call::SettledRun];
 
 fn crossings(values: &[f64], limit: f64, lent: usize) -> Outcome {
     let case = Case {
@@ -126,7 +131,7 @@ fn refused_nearest() {
 fn one_loop_finds_what_two_find() {
     let mut rng = Rng::new(1);
     for _ in 0..20_000 {
-        let case = cases::case(&mut rng, Call::Nearest);
+        let case = cases::case(&mut rng, Call::Nearest, None);
         let times = &case.timestamps[..case.timestamps.len().min(model::LONG)];
         assert_eq!(model::first_least(times, case.time), model::unbeaten(times, case.time));
     }
@@ -137,7 +142,7 @@ fn one_loop_finds_what_two_find() {
 fn plain_loops_give_the_same() {
     let mut rng = Rng::new(1);
     for _ in 0..20_000 {
-        let case = cases::case(&mut rng, Call::Crossings);
+        let case = cases::case(&mut rng, Call::Crossings, None);
         let values: Vec<f64> = case.values.iter().map(|bits| f64::from_bits(*bits)).collect();
         let mut indexes = case.indexes.clone();
         let lent = &mut indexes[..case.lent];
@@ -147,12 +152,17 @@ fn plain_loops_give_the_same() {
         assert_eq!(plain, if stated == (0, 0) { Ok(outcome.count) } else { Err(stated) });
         assert_eq!(indexes, outcome.indexes);
 
-        let case = cases::case(&mut rng, Call::Nearest);
+        let case = cases::case(&mut rng, Call::Nearest, None);
         let plain = plain::nearest(&case.timestamps, case.time);
         let outcome = oracle::outcome(Call::Nearest, &case);
         let nearest = (outcome.found == 1).then_some(outcome.nearest);
         let stated = (outcome.number, outcome.index);
         assert_eq!(plain, if stated == (0, 0) { Ok(nearest) } else { Err(stated) });
+    }
+    for (case, outputs) in waiting(Call::Run) {
+        let plain: Vec<f64> =
+            outputs.iter().map(|time| plain::until_next(&case.timestamps, *time)).collect();
+        assert_eq!(all_bits(&plain), all_bits(&model::until_next(&case.timestamps, &outputs)));
     }
 }
 
@@ -160,7 +170,7 @@ fn plain_loops_give_the_same() {
 fn pairs(call: Call) -> BTreeSet<[u64; 2]> {
     let mut rng = Rng::new(1);
     let offended = (0..50_000).filter_map(|_| {
-        let case = cases::case(&mut rng, call);
+        let case = cases::case(&mut rng, call, None);
         let numbers: Vec<u64> = rows::offences(call, &case).map(|(number, _)| number).collect();
         numbers.try_into().ok()
     });
@@ -178,15 +188,15 @@ fn every_two_rows_are_offended() {
 }
 
 /// Generated calls that are accepted.
-fn accepted(call: Call) -> Vec<Case> {
+fn accepted(call: Call, rollup: Option<u32>) -> Vec<Case> {
     let mut rng = Rng::new(1);
-    let cases = (0..20_000).map(|_| cases::case(&mut rng, call));
+    let cases = (0..20_000).map(|_| cases::case(&mut rng, call, rollup));
     cases.filter(|case| rows::refusal(call, case).is_none()).collect()
 }
 
 #[test]
 fn ties_and_corners_are_asked() {
-    let accepted = accepted(Call::Nearest);
+    let accepted = accepted(Call::Nearest, None);
     let tie = |case: &Case| {
         let distance = |t: &i64| t.abs_diff(case.time);
         let least = case.timestamps.iter().map(distance).min();
@@ -202,7 +212,7 @@ fn ties_and_corners_are_asked() {
 
 #[test]
 fn limits_at_values_are_asked() {
-    let accepted = accepted(Call::Crossings);
+    let accepted = accepted(Call::Crossings, None);
     let many = |is: &dyn Fn(&Case) -> bool| accepted.iter().filter(|c| is(c)).count() > 100;
     let any = |case: &Case, is: fn(f64, f64) -> bool| {
         case.values.iter().any(|bits| is(f64::from_bits(*bits), case.limit))
@@ -315,7 +325,7 @@ fn the_correction_overflows() {
 /// Generated values for the step.
 fn counters() -> Vec<Vec<f64>> {
     let mut rng = Rng::new(1);
-    let cases = (0..60_000).map(|_| cases::accepted(&mut rng, Call::Prepare));
+    let cases = (0..60_000).map(|_| cases::accepted(&mut rng, Call::Prepare, None));
     let values = cases.filter(|case| case.pre == ONCE).map(|case| case.values);
     values.map(|values| values.into_iter().map(f64::from_bits).collect()).collect()
 }
@@ -427,4 +437,222 @@ fn restarts_of_every_kind_are_asked() {
         (1..sums.len()).any(|i| sums[i] < sums[i - 1] && values[i].min(values[i - 1]) >= from)
     };
     assert!(many(&|values| falls(values, f64::MIN)) && many(&|values| falls(values, 0.0)));
+}
+
+/// A run of until_next over a series, with slices one entry longer than is asked.
+fn until_next(call: Call, timestamps: &[i64], settings: Settings) -> Outcome {
+    let series = (timestamps.to_vec(), vec![7.5; timestamps.len()]);
+    oracle::outcome(call, &Case { rollup: UNTIL_NEXT, ..cases::average(&series, settings) })
+}
+
+/// Settings with these output times and this window.
+fn grid(start: i64, end: i64, step: i64, window: i64) -> Settings {
+    Settings { start, end, step, window, ..Settings::default() }
+}
+
+/// Both runs accept the series and give this wait at the output time, with nothing behind it, whatever
+/// the window; and so do both forms of the model.
+fn wait(timestamps: &[i64], time: i64, stated: f64) {
+    let stated = all_bits(&[stated])[0];
+    for call in RUNS {
+        for window in [1, 1000, 2500, TIME_LIMIT] {
+            let outcome = until_next(call, timestamps, grid(time, time, 1000, window));
+            assert_eq!((outcome.number, outcome.index), (0, 0));
+            assert_eq!(outcome.dst_values, [stated, UNSET]);
+        }
+    }
+    for form in [model::filtered, model::side_by_side] {
+        let next = form(timestamps, &[time])[0];
+        assert_eq!(all_bits(&[model::wait(time, next)]), [stated]);
+    }
+}
+
+#[test]
+fn the_rollup_has_the_last_number() {
+    assert_eq!((ROLLUPS[UNTIL_NEXT as usize], ROLLUPS.len()), ("until_next", 49));
+    assert_eq!(ROLLUPS[..48], exposed::ROLLUPS.map(|(name, _)| name));
+    let series = (vec![1000], vec![1.0]);
+    let settings = grid(0, 0, 1, 1);
+    let case = Case { rollup: UNTIL_NEXT + 1, ..cases::average(&series, settings) };
+    for call in RUNS {
+        let refused = oracle::outcome(call, &case);
+        assert_eq!((refused.number, refused.index, refused.count), (28, 0, UNSET));
+        assert_eq!(refused.dst_values, [UNSET; 2]);
+    }
+}
+
+#[test]
+fn seconds_until_the_next_reading() {
+    let times = [1000, 2000, 3000];
+    for (time, stated) in [(500, 0.5), (999, 0.001), (1000, 1.0), (1001, 0.999), (1999, 0.001)] {
+        wait(&times, time, stated);
+    }
+    for (time, stated) in [(-TIME_LIMIT, 1125899906843.624), (2000, 1.0), (2999, 0.001)] {
+        wait(&times, time, stated);
+    }
+    // Nine times the double of 0.001 is another double than 0.009.
+    wait(&[9], 0, 0.009);
+}
+
+#[test]
+fn none_without_a_reading_after() {
+    for time in [3000, 3001, 4000, TIME_LIMIT] {
+        wait(&[1000, 2000, 3000], time, f64::NAN);
+    }
+    for time in [-TIME_LIMIT, -1, 0, 1, TIME_LIMIT] {
+        wait(&[], time, f64::NAN);
+    }
+    wait(&[5], 4, 0.001);
+    wait(&[5], 5, f64::NAN);
+    let outcome = until_next(Call::Run, &[5], grid(5, 5, 1, 1));
+    assert_eq!(outcome.dst_values[0], NAN);
+}
+
+#[test]
+fn waits_at_the_limits() {
+    let ends = [-TIME_LIMIT, TIME_LIMIT];
+    let all = (1i64 << 51) as f64;
+    wait(&ends, -TIME_LIMIT, all / 1000.0);
+    wait(&ends, 1 - TIME_LIMIT, (all - 1.0) / 1000.0);
+    wait(&ends, TIME_LIMIT - 1, 0.001);
+    wait(&ends, TIME_LIMIT, f64::NAN);
+    wait(&ends[..1], -TIME_LIMIT, f64::NAN);
+    wait(&ends[1..], -TIME_LIMIT, all / 1000.0);
+}
+
+#[test]
+fn zero_is_a_time() {
+    wait(&[0], -1, 0.001);
+    wait(&[0], 0, f64::NAN);
+    wait(&[-5, 0, 5], -5, 0.005);
+    wait(&[-5, 0, 5], -2, 0.002);
+    wait(&[-5, 0, 5], 0, 0.005);
+}
+
+/// Answers, count and slices of runs with several output times.
+#[test]
+fn runs_of_waits() {
+    let times = [1000, 2000, 3000];
+    let none = f64::NAN;
+    for call in RUNS {
+        let every_half = until_next(call, &times, grid(500, 3999, 500, 1000));
+        assert_eq!((every_half.number, every_half.index), (0, 0));
+        let stated = all_bits(&[0.5, 1.0, 0.5, 1.0, 0.5, none, none]);
+        assert_eq!(every_half.dst_values, [stated, vec![UNSET]].concat());
+        // Three samples; no reading in the first window, one in each but the last.
+        assert_eq!(every_half.count, 3 + 6);
+        assert_eq!(every_half.prepared, [all_bits(&[7.5; 3]), vec![UNSET]].concat());
+        assert_eq!(every_half.work, [vec![0; 6], vec![UNSET]].concat());
+
+        let per_call = Settings { samples_scanned_per_call: 2, ..grid(500, 3999, 500, 1000) };
+        assert_eq!(until_next(call, &times, per_call).count, 3 + 7 * 2);
+        let leaps = until_next(call, &times, grid(-4000, 4000, 4000, 1));
+        assert_eq!(leaps.dst_values, [all_bits(&[5.0, 1.0, none]), vec![UNSET]].concat());
+        assert_eq!(leaps.count, 3);
+        let empty = until_next(call, &[], grid(0, 1, 1, 1));
+        assert_eq!((empty.dst_values, empty.count), (vec![NAN, NAN, UNSET], 0));
+    }
+}
+
+/// Generated runs that ask until_next and are accepted, with their output times.
+fn waiting(call: Call) -> Vec<(Case, Vec<i64>)> {
+    let cases = accepted(call, Some(UNTIL_NEXT)).into_iter();
+    let short = cases.filter(|case| rows::points(case) <= 1000);
+    let outputs = |case: &Case| {
+        let Settings { start, end, step, .. } = case.settings;
+        (start..=end).step_by(step as usize).collect()
+    };
+    short.map(|case| (case.clone(), outputs(&case))).collect()
+}
+
+/// The count and the prepared values are those of any other rollup, and no value is looked at.
+#[test]
+fn only_times_matter() {
+    for call in RUNS {
+        for (case, outputs) in waiting(call) {
+            let outcome = oracle::outcome(call, &case);
+            let stated = all_bits(&model::until_next(&case.timestamps, &outputs));
+            assert_eq!(outcome.dst_values[..outputs.len()], stated);
+            assert_eq!(outcome.dst_values[outputs.len()..], case.dst_values[outputs.len()..]);
+            let average = oracle::outcome(call, &Case { rollup: 0, ..case.clone() });
+            assert_eq!((outcome.number, outcome.count), (0, average.count));
+            assert_eq!((&outcome.prepared, &outcome.work), (&average.prepared, &average.work));
+            let zeros = vec![0; case.values.len()];
+            let other = oracle::outcome(call, &Case { values: zeros, pre: 0, ..case });
+            assert_eq!(outcome.dst_values, other.dst_values);
+        }
+    }
+}
+
+#[test]
+fn one_loop_finds_what_filters_find() {
+    for (case, outputs) in waiting(Call::Run) {
+        let filtered = model::filtered(&case.timestamps, &outputs);
+        assert_eq!(model::side_by_side(&case.timestamps, &outputs), filtered);
+    }
+    // So many that the model takes the one loop.
+    let (times, outputs): (Vec<i64>, Vec<i64>) = (0..2000).map(|k| (3 * k, 5 * k - 2000)).unzip();
+    assert!(times.len() * outputs.len() > model::MANY);
+    let filtered = model::filtered(&times, &outputs).into_iter().zip(&outputs);
+    let waits: Vec<f64> = filtered.map(|(next, time)| model::wait(*time, next)).collect();
+    assert_eq!(all_bits(&model::until_next(&times, &outputs)), all_bits(&waits));
+}
+
+/// All that is generated with a given rollup asks it, but for the numbers that name none.
+#[test]
+fn a_given_rollup_is_asked() {
+    for rollup in [0, UNTIL_NEXT] {
+        let mut rng = Rng::new(1);
+        let asked = (0..20_000).map(|_| cases::case(&mut rng, Call::Run, Some(rollup)).rollup);
+        let asked: BTreeSet<u32> = asked.collect();
+        assert_eq!(asked, [rollup, 49, 50, u32::MAX].into());
+    }
+    let mut rng = Rng::new(1);
+    let drawn = (0..20_000).map(|_| cases::accepted(&mut rng, Call::Run, None).rollup);
+    assert_eq!(drawn.collect::<BTreeSet<u32>>(), (0..49).collect());
+}
+
+#[test]
+fn output_times_of_every_kind_are_asked() {
+    for call in RUNS {
+        let waiting = waiting(call);
+        let many = |is: &dyn Fn(&[i64], i64) -> bool| {
+            let asks = |(case, outputs): &&(Case, Vec<i64>)| {
+                outputs.iter().any(|time| is(&case.timestamps, *time))
+            };
+            waiting.iter().filter(asks).count() > 100
+        };
+        let first = |times: &[i64]| times.first().copied();
+        let last = |times: &[i64]| times.last().copied();
+        let amid = |times: &[i64], t: i64| first(times) < Some(t) && Some(t) < last(times);
+        // Before, on, between and after the readings.
+        assert!(many(&|times, t| first(times).is_some_and(|first| t < first)));
+        assert!(many(&|times, t| first(times) == Some(t)));
+        assert!(many(&|times, t| amid(times, t) && times.contains(&t)));
+        assert!(many(&|times, t| amid(times, t) && !times.contains(&t)));
+        assert!(many(&|times, t| amid(times, t) && times.contains(&(t + 1))));
+        assert!(many(&|times, t| amid(times, t) && times.contains(&(t - 1))));
+        assert!(many(&|times, t| last(times) == Some(t)));
+        assert!(many(&|times, t| last(times).is_some_and(|last| t > last)));
+        assert!(many(&|times, _| times.is_empty()));
+        // At the limits, with readings there and elsewhere.
+        let (low, high) = (-TIME_LIMIT, TIME_LIMIT);
+        assert!(many(&|times, t| t == low && first(times) == Some(low)));
+        assert!(many(&|times, t| t == low && first(times).is_some_and(|first| first > low)));
+        assert!(many(&|times, t| t == high && last(times) == Some(high)));
+        assert!(many(&|times, t| t == high && last(times).is_some_and(|last| last < high)));
+        assert!(many(&|times, t| t == high - 1 && last(times) == Some(high)));
+        // A next time of 0, and waits of half of all time and more.
+        assert!(many(&|times, t| model::next(times, t) == Some(0)));
+        assert!(many(&|times, t| model::wait(t, model::next(times, t)) >= high as f64 / 1e3));
+        // A next reading whose prepared value is NaN.
+        let nan = |(case, outputs): &&(Case, Vec<i64>)| {
+            let values = oracle::prepared(case);
+            outputs.iter().any(|time| {
+                let next = case.timestamps.iter().position(|reading| reading > time);
+                next.is_some_and(|next| values[next].is_nan())
+            })
+        };
+        assert!(waiting.iter().filter(nan).count() > 20);
+    }
 }

@@ -1,7 +1,8 @@
 //! Times of the port beside the Rust, in milliseconds, best of several; build it with `--profile
 //! timed`. A table for each kind of series. `fair` is the Rust's time, charged with the work of the
 //! port's call that the Rust does not do, over the port's time: above 1 the port is ahead. For the step
-//! that the Rust does not have, the column `Rust` has the model's plain loop.
+//! that the Rust does not have, the column `Rust` has the model's plain loop; for the rollup, `do_internal`
+//! with a plain closure, which searches the next reading by `partition_point` on the series' times.
 //! `bench prepare [READINGS]`: each preparing step beside a copy and the Rust's pre-function, which is
 //! charged with the port's checks of the series.
 //! `bench run [READINGS]`: the port's run of each rollup beside the Rust's `do_internal`, over a few
@@ -11,14 +12,15 @@
 //! `plain`, which check the same rows. `ratio` is the port's time over the Rust's.
 
 use std::process::exit;
+use std::sync::Arc;
 use std::time::Instant;
 
 use compare::call::{Call, Case, Outcome, UNSET};
 use compare::inputs::cases::average;
 use compare::inputs::series::{counter, KINDS};
-use compare::judge::{self, STEPS};
+use compare::judge::{self, ROLLUPS, STEPS};
 use compare::{plain, port};
-use original::exposed::{self, Rollup, Settings, ROLLUPS};
+use original::exposed::{self, Rollup, Settings};
 
 const ROUNDS: usize = 7;
 const DAY: i64 = 86_400_000;
@@ -148,12 +150,13 @@ fn run(readings: usize) {
 fn runs(mut case: Case, values: &[f64]) -> Vec<Line> {
     let mut outcome = Outcome::before(&case);
     let fixed = fixed(&case);
+    let times = Arc::from(&case.timestamps[..]);
     let mut lines = vec![];
-    for (number, (name, _)) in ROLLUPS.iter().enumerate() {
+    for (number, name) in ROLLUPS.iter().enumerate() {
         case.rollup = number as u32;
         let charge = port_ms(&fixed, &mut outcome);
         let port = port_ms(&case, &mut outcome);
-        let rust = || rust(&case, values);
+        let rust = || rust(&case, values, &times);
         let rust = judge::caught(rust).map(|_| best(|| ms(rust)));
         lines.push(Line { name: name.to_string(), port, rust, charge });
     }
@@ -168,7 +171,7 @@ fn runs(mut case: Case, values: &[f64]) -> Vec<Line> {
             copy.copy_from_slice(values);
             ms(|| {
                 judge::prepare(pre, &case.timestamps, &mut copy);
-                rust(&case, &copy)
+                rust(&case, &copy, &times)
             })
         });
         lines.push(Line { name: format!("avg after {name}"), port, rust: Some(rust), charge });
@@ -180,7 +183,7 @@ fn runs(mut case: Case, values: &[f64]) -> Vec<Line> {
 /// the prepared slice and the clearing of the work slice. It is a run that counts the readings of
 /// one window.
 fn fixed(case: &Case) -> Case {
-    let rollup = ROLLUPS.iter().position(|(name, _)| *name == "count").unwrap() as u32;
+    let rollup = ROLLUPS.iter().position(|name| *name == "count").unwrap() as u32;
     let settings = Settings { end: case.settings.start, ..case.settings.clone() };
     Case { rollup, settings, ..case.clone() }
 }
@@ -199,7 +202,7 @@ fn growth(most: usize) {
         let mut case = average(&series, settings);
         let mut outcome = Outcome::before(&case);
         let times = SOME.map(|name| {
-            case.rollup = ROLLUPS.iter().position(|(other, _)| *other == name).unwrap() as u32;
+            case.rollup = ROLLUPS.iter().position(|other| *other == name).unwrap() as u32;
             let nanos = port_ms(&case, &mut outcome) * 1e6 / readings as f64;
             format!("{nanos:>14.2}")
         });
@@ -275,9 +278,16 @@ fn port_ms(case: &Case, outcome: &mut Outcome) -> f64 {
     best(|| ms(|| assert_eq!(port::run(case, outcome), 0)))
 }
 
-/// `do_internal` on prepared values.
-fn rust(case: &Case, values: &[f64]) -> (Vec<f64>, u64) {
-    let rollup = Rollup::new(case.rollup as usize, case.first, case.second);
+/// `do_internal` on prepared values. The rollup that the Rust does not have is handed the series' times.
+fn rust(case: &Case, values: &[f64], times: &Arc<[i64]>) -> (Vec<f64>, u64) {
+    let number = case.rollup as usize;
+    let rollup = match ROLLUPS[number] {
+        "until_next" => {
+            let times = times.clone();
+            Rollup::of(move |record| plain::until_next(&times, record.curr_timestamp))
+        }
+        _ => Rollup::new(number, case.first, case.second),
+    };
     exposed::run(&case.settings, rollup, values, &case.timestamps).unwrap()
 }
 

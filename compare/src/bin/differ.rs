@@ -1,14 +1,16 @@
 //! `differ WHAT --cases N --seed S` compares the port with its judge on N generated calls; WHAT is
 //! prepare, settle, run or settled_run, which the Rust judges, crossings or nearest, which the model
-//! judges as it does the step that the Rust does not have, or cuts: accepted runs with the settled runs
-//! that they are cut into, or all (what the archive has the functions for).
+//! judges as it does the step and the rollup that the Rust does not have, or cuts: accepted runs with the
+//! settled runs that they are cut into, or all (what the archive has the functions for). With `--rollup R`
+//! every generated run, settled run and cut asks rollup R, but for those that are to name none.
 
 use std::collections::BTreeMap;
 use std::process::exit;
 
-use compare::arguments::number;
+use compare::arguments::{if_given, number};
 use compare::call::{Call, Case};
 use compare::inputs::cases;
+use compare::judge::ROLLUPS;
 use compare::rng::Rng;
 use compare::{cuts, judge, oracle, port, shrink};
 
@@ -33,12 +35,12 @@ impl What {
         all
     }
 
-    fn generated(self, rng: &mut Rng) -> Generated {
+    fn generated(self, rng: &mut Rng, rollup: Option<u32>) -> Generated {
         match self {
-            What::One(call) => (call, cases::case(rng, call), 0),
+            What::One(call) => (call, cases::case(rng, call, rollup), 0),
             What::Cuts => {
                 let call = rng.pick(&[Call::Run, Call::SettledRun]);
-                (call, cases::accepted(rng, call), rng.bits())
+                (call, cases::accepted(rng, call, rollup), rng.bits())
             }
         }
     }
@@ -73,23 +75,28 @@ fn main() {
     let Some(name) = words.first() else { usage() };
     let options = (number(&words, "--cases", 100_000), number(&words, "--seed", 1));
     let (Some(cases), Some(seed)) = options else { usage() };
+    let Some(rollup) = if_given(&words, "--rollup") else { usage() };
+    if rollup.is_some_and(|number| number >= ROLLUPS.len() as u64) {
+        usage()
+    }
+    let rollup = rollup.map(|number| number as u32);
     let mut all = What::all();
     all.retain(|(what, _)| name == "all" || what == name);
     if all.is_empty() {
         usage()
     }
-    let bad: u64 = all.iter().map(|(name, what)| compare(name, *what, cases, seed)).sum();
+    let bad: u64 = all.iter().map(|(name, what)| compare(name, *what, cases, seed, rollup)).sum();
     println!("{} cases, {bad} disagreements", cases * all.len() as u64);
     exit((bad > 0) as i32)
 }
 
 /// Compares one of them; gives the number of disagreements.
-fn compare(name: &str, what: What, cases: u64, seed: u64) -> u64 {
+fn compare(name: &str, what: What, cases: u64, seed: u64, rollup: Option<u32>) -> u64 {
     let mut rng = Rng::new(seed);
     let mut agreed = BTreeMap::new();
     let mut shortest: Option<Generated> = None;
     let mut bad = 0;
-    let generated = (0..cases).map(|_| what.generated(&mut rng));
+    let generated = (0..cases).map(|_| what.generated(&mut rng, rollup));
     for (call, case, seed) in what.stated().chain(generated).take(cases as usize) {
         match what.disagreement(call, &case, seed) {
             Ok(number) => *agreed.entry(number).or_insert(0) += 1,
@@ -126,7 +133,8 @@ fn disagreement(call: Call, case: &Case) -> Result<u64, String> {
 }
 
 fn usage() -> ! {
-    eprintln!("differ WHAT [--cases N] [--seed S]; WHAT is all or one that the archive has");
+    eprintln!("differ WHAT [--cases N] [--seed S] [--rollup 0 to {}]", ROLLUPS.len() - 1);
+    eprintln!("WHAT is all or one that the archive has");
     match &What::all()[..] {
         [] => eprintln!("no archive was found: write it by `rt staticlib harzoulin`"),
         all => {

@@ -7,9 +7,9 @@ use std::process::exit;
 use compare::call::{Call, Case, UNSET};
 use compare::inputs::cases::average;
 use compare::inputs::series::counter;
-use compare::judge::{self, STEPS};
+use compare::judge::{self, ROLLUPS, STEPS};
 use compare::{cuts, oracle, port, rows};
-use original::exposed::{Settings, ROLLUPS};
+use original::exposed::Settings;
 
 const YEARS: usize = 15_800_000;
 const MOST: usize = rows::MOST as usize;
@@ -29,7 +29,7 @@ fn main() {
     let mut days = average(&years, Settings { step: DAY, window: DAY, ..Settings::default() });
     days.settings.end = *years.0.last().unwrap();
     days.dst_values = vec![UNSET; rows::points(&days) as usize + 1];
-    for (number, (name, _)) in ROLLUPS.iter().enumerate() {
+    for (number, name) in ROLLUPS.iter().enumerate() {
         days.rollup = number as u32;
         tally.call(Call::Run, &days, 0, name);
     }
@@ -41,7 +41,7 @@ fn main() {
     let end = days.settings.end;
     days.settings = Settings { start: end, end, step: DAY, window: 1 << 50, ..days.settings };
     days.pre = 0;
-    for (number, (name, _)) in ROLLUPS.iter().enumerate() {
+    for (number, name) in ROLLUPS.iter().enumerate() {
         if ON_A_COPY.contains(name) {
             days.rollup = number as u32;
             tally.call(Call::Run, &days, 0, &format!("{name} of the whole series"));

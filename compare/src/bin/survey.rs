@@ -33,7 +33,7 @@ fn main() {
     let mut tally = Tally::default();
     for _ in 0..cases {
         let call = rng.pick(&[Call::Run, Call::SettledRun]);
-        let mut case = cases::accepted(&mut rng, call);
+        let mut case = cases::accepted(&mut rng, call, None);
         if call == Call::SettledRun {
             case.settings = judge::settled(&case.settings, case.settings.window, case.reach);
         }
@@ -76,11 +76,11 @@ fn survey(case: &Case, tally: &mut Tally) {
     }
 }
 
-/// Every rollup on a record: a panic that is no departure is a disagreement.
+/// Every rollup of the Rust on a record: a panic that is no departure is a disagreement.
 fn rollups(case: &Case, record: &Record, tally: &mut Tally) {
     tally.records += 1;
     for (number, (name, _)) in ROLLUPS.iter().enumerate() {
-        let judged = judge::caught(|| judge::rollup(number, case.first, case.second, record));
+        let judged = judge::caught(|| judge::rollup(number, case.first, case.second, record, None));
         tally.hold(name, case, judged.is_some());
         let Some((answer, departs)) = judged else { continue };
         if departs {

@@ -4,25 +4,26 @@
 use original::exposed::Settings;
 
 use super::series::TIME_LIMIT;
-use super::{crossings, floats, nearest, series, settings};
+use super::{crossings, floats, nearest, series, settings, until_next};
 use crate::call::{Call, Case, UNSET};
-use crate::judge::{self, STEPS};
+use crate::judge::{self, ROLLUPS, STEPS};
 use crate::rng::Rng;
 use crate::rows;
 
 pub(super) const MOST: i64 = rows::MOST as i64;
 
-pub fn case(rng: &mut Rng, call: Call) -> Case {
+/// A call; the rollup is drawn where none is given.
+pub fn case(rng: &mut Rng, call: Call, rollup: Option<u32>) -> Case {
     match call {
         Call::Crossings => crossings::case(rng),
         Call::Nearest => nearest::case(rng),
-        _ => of_the_rust(rng, call),
+        _ => of_the_rust(rng, call, rollup),
     }
 }
 
-/// A call that the Rust judges, but for the step that it does not have.
-fn of_the_rust(rng: &mut Rng, call: Call) -> Case {
-    let mut case = accepted(rng, call);
+/// A call that the Rust judges, but for the step and the rollup that it does not have.
+fn of_the_rust(rng: &mut Rng, call: Call, rollup: Option<u32>) -> Case {
+    let mut case = accepted(rng, call, rollup);
     let spoils = rng.pick(&[0, 0, 0, 1, 1, 2]);
     for _ in 0..spoils {
         spoil(rng, call, &mut case);
@@ -30,23 +31,29 @@ fn of_the_rust(rng: &mut Rng, call: Call) -> Case {
     case
 }
 
-/// Such a call that is accepted.
-pub fn accepted(rng: &mut Rng, call: Call) -> Case {
+/// Such a call that is accepted. A run of until_next may go to the limits.
+pub fn accepted(rng: &mut Rng, call: Call, rollup: Option<u32>) -> Case {
     let n = series::length(rng);
     let step = rng.below(STEPS.len() as u64) as usize;
     let (timestamps, values) = series::for_step(rng, step, n);
     let most = rng.pick(&[1, 2, 3, 10, 40]);
     let settings = settings::settings(rng, &timestamps, most);
+    let drawn = rng.below(ROLLUPS.len() as u64) as u32;
     let mut case = Case {
         timestamps,
         values: values.iter().map(|v| v.to_bits()).collect(),
         pre: step as u32,
-        rollup: rng.below(48) as u32,
+        rollup: rollup.unwrap_or(drawn),
         first: floats::parameter(rng),
         second: floats::parameter(rng),
         settings,
         ..Case::default()
     };
+    let runs = call == Call::Run || call == Call::SettledRun;
+    if runs && ROLLUPS[case.rollup as usize] == "until_next" {
+        // What is drawn for the other rollups stays as it is.
+        until_next::to_the_limits(&mut rng.aside(), &mut case);
+    }
     if call == Call::SettledRun {
         settled(rng, &mut case);
     }
@@ -142,7 +149,7 @@ fn spoil(rng: &mut Rng, call: Call, case: &mut Case) {
         13 => case.prepared.truncate(n.saturating_sub(1) as usize),
         14 => case.work.truncate((2 * n).saturating_sub(1) as usize),
         0 if rng.once_in(2) => case.pre = rng.pick(&[6, 7, u32::MAX]),
-        0 => case.rollup = rng.pick(&[48, 49, u32::MAX]),
+        0 => case.rollup = rng.pick(&[49, 50, u32::MAX]),
         _ => {}
     }
 }

@@ -6,3 +6,4 @@ pub mod floats;
 pub mod nearest;
 pub mod series;
 pub mod settings;
+pub mod until_next;

@@ -1,10 +1,11 @@
 //! Whole runs: each series and grid with every rollup; then runs that are refused.
 
-use original::exposed::{Settings, ROLLUPS};
+use original::exposed::Settings;
 
 use super::{mask, setting_words};
 use crate::call::{Call, Case};
 use crate::inputs::{cases, floats, series, settings};
+use crate::judge::ROLLUPS;
 use crate::rng::Rng;
 use crate::words::{all_bits, bits, times, List};
 use crate::{judge, rows};
@@ -13,7 +14,7 @@ pub const CASES: &str = "step, first, second (the parameters), n, n times, n val
     step, window, may_adjust_window, is_default_rollup, lookback_delta, min_staleness_interval, \
     max_points_per_series, samples_scanned_per_call, then the settled window, the reach, the count, \
     a word whose bit k says that a departure was applied to rollup k, g, and for each of \
-    rollups 0 to 47 its g answers; where g is 0 the run is refused, with no place for an answer \
+    rollups 0 to 48 its g answers; where g is 0 the run is refused, with no place for an answer \
     lent, and the number and the index of the refusal stand for window and reach";
 
 /// The rows of docs/REFUSALS.md that a run is refused by here. The others are about slices whose lengths
@@ -73,7 +74,7 @@ fn accepted(
 /// A run of a few readings that is refused with this number, whatever the rollup.
 fn refused(rng: &mut Rng, list: &mut List, number: u64) {
     loop {
-        let case = Case { dst_values: vec![], ..cases::case(rng, Call::Run) };
+        let case = Case { dst_values: vec![], ..cases::case(rng, Call::Run, None) };
         let few = case.timestamps.len() <= 14 && case.timestamps.len() == case.values.len();
         match rows::refusal(Call::Run, &case) {
             Some((found, index)) if found == number && few => {
