@@ -5,11 +5,10 @@ use settings::course::Course;
 use window::types::RollupFuncArg;
 ghost use mathlib.Core.Path.{_≡_};
 ghost use mathlib.Core.Option.{Option·getD};
-ghost use lib.ListN.{length, getD};
-ghost use lib.IntN.{pos};
+ghost use lib.ListN.{length};
 ghost use lib.Signed.{ltZ};
 ghost use Rattle.times.specs.Later.{NotFalling};
-ghost use Rattle.record.specs.Index.{Found, valueAt, valueBefore, valueIf, predecessorAt};
+ghost use Rattle.record.specs.Index.{Found, nextAt, valueAt, valueBefore, valueIf, predecessorAt};
 ghost use Rattle.settings.specs.Course.{Timed};
 ghost use Rattle.record.specs.Record.{readings, recordAt};
 
@@ -21,17 +20,6 @@ fn value_at(values: &[u64], k: usize) -> f64
         ieee::value_of(values[k])
     } else {
         ieee::nan()
-    }
-}
-
-// The time at k, and 0 where there is none.
-fn time_at(timestamps: &[i64], k: usize) -> i64
-    ensures { λ r. ⌜ r ≡ getD (now (timestamps .entry)) k (pos 0) ⌝ }
-{
-    if k < timestamps.len() {
-        timestamps[k]
-    } else {
-        0
     }
 }
 
@@ -67,6 +55,33 @@ fn value_if(time: i64, limit: i64, x: f64) -> f64
     if time > limit { x } else { ieee::nan() }
 }
 
+// What a record holds of the reading after the output time.
+struct Next {
+    value: f64,
+    is_there: bool,
+    time: i64,
+}
+
+// The reading at j; NaN and 0 where there is none.
+fn next_at(timestamps: &[i64], values: &[u64], j: usize) -> Next
+    requires { ⌜ length (now timestamps) ≡ length (now values) ⌝ }
+    ensures { λ r. ⌜ r ≡ nextAt (now (timestamps .entry)) (now (values .entry)) j ⌝ }
+{
+    if j < timestamps.len() {
+        Next {
+            value: ieee::value_of(values[j]),
+            is_there: true,
+            time: timestamps[j],
+        }
+    } else {
+        Next {
+            value: ieee::nan(),
+            is_there: false,
+            time: 0,
+        }
+    }
+}
+
 // The record at t_end, for the course's window and reach.
 pub fn record_at(
     timestamps: &[i64],
@@ -84,13 +99,14 @@ pub fn record_at(
     let limit = t_start - course.reach;
     let prev_timestamp = predecessor_time(timestamps, i, limit);
     let real_prev_value = value_before(values, i);
+    let next = next_at(timestamps, values, j);
     RollupFuncArg {
         prev_value: value_if(prev_timestamp, limit, real_prev_value),
         prev_timestamp,
         real_prev_value,
-        real_next_value: value_at(values, j),
-        has_next: j < timestamps.len(),
-        next_timestamp: time_at(timestamps, j),
+        real_next_value: next.value,
+        has_next: next.is_there,
+        next_timestamp: next.time,
         curr_timestamp: t_end,
         window,
     }
