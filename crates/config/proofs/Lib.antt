@@ -3,3 +3,4 @@ pub mod Distances
 pub mod Estimates
 pub mod Examples
 pub mod Limits
+pub mod Reaches

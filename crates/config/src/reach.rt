@@ -4,7 +4,8 @@ ghost use mathlib.Core.Path.{_≡_};
 ghost use Prim.Native.Nat.{_<_, _^_};
 ghost use Rattle.config.specs.Reach.{reachOf, cappedBy, boundedReach, raisedStep, windowOf};
 
-// The reach of an estimate. A short interval is raised more, which hides gaps where readings come unevenly.
+// The reach of an estimate. A short interval is raised more, which hides gaps where readings come unevenly. A part of a long one is what
+// a shift leaves: a division is dear where many series are settled, and none stands in the reach.
 pub fn get_max_prev_interval(scrape_interval: u64) -> u64
     requires { ⌜ «scrape_interval» < 2 ^ 63 ⌝ }
     ensures { λ r. ⌜ r ≡ reachOf «scrape_interval» ⌝ }
@@ -19,12 +20,12 @@ pub fn get_max_prev_interval(scrape_interval: u64) -> u64
         return scrape_interval * 2;
     }
     if scrape_interval <= 16_000 {
-        return scrape_interval + scrape_interval / 2;
+        return scrape_interval + (scrape_interval >> 1);
     }
     if scrape_interval <= 32_000 {
-        return scrape_interval + scrape_interval / 4;
+        return scrape_interval + (scrape_interval >> 2);
     }
-    scrape_interval + scrape_interval / 8
+    scrape_interval + (scrape_interval >> 3)
 }
 
 // n, at most a limit that is above 0.
