@@ -5,7 +5,7 @@ use mathlib.Core.List.{List, [], _∷_, map}
 use Prim.Native.Nat.{ℕ}
 use lib.Dec.{ltb}
 use lib.IntN.{ℤ, pos, natAbs, _-ℤ_}
-use lib.Ieee.{Float, binary64, ofBits, toBits, ofInt, toSigned}
+use lib.Ieee.{Float, binary64, ofBits, ofInt, toSigned}
 use lib.ListN.{length, take}
 use lib.Signed.{leZ}
 use Rattle.quantile.specs.Quantile.{quantileOf}
@@ -26,10 +26,6 @@ distances (t ∷ ts) = distancesFrom t ts
 -- the first 20 of them as floats
 abbrev pub firstIntervals : List ℤ → List Float
 firstIntervals ts = map (ofInt binary64) (take 20 (distances ts))
-
--- an interval's pattern
-abbrev pub intervalBits : ℤ → ℕ
-intervalBits d = toBits binary64 (ofInt binary64 d)
 
 -- a whole number above 0 itself, and any other as five minutes
 abbrev pub orSilence : ℤ → ℕ

@@ -1,36 +1,36 @@
 // The interval between readings, estimated from the first 20.
 
 ghost use mathlib.Core.Path.{_≡_};
-ghost use mathlib.Core.List.{map};
-ghost use Prim.Native.Nat.{_+_, _<_};
+ghost use Prim.Native.Nat.{_+_, _≤_, _<_};
+ghost use lib.Ieee.{binary64, ofInt};
 ghost use lib.IntN.{pos};
 ghost use lib.ListN.{length, getD, take};
 ghost use Rattle.series.specs.Rows.{timesChecked};
 ghost use Rattle.series.specs.declared.refusal.Checked.{Checked};
-ghost use Rattle.config.specs.Estimate.{distances, intervalBits, estimateOf};
+ghost use Rattle.config.specs.Estimate.{distances, firstIntervals, estimateOf};
 
 const MAX_SILENCE_INTERVAL: u64 = 300_000;
 
-// The pattern of the distance from the time at i to the next.
-fn interval_bits(timestamps: &[i64], i: usize) -> u64
+// The distance from the time at i to the next.
+fn interval(timestamps: &[i64], i: usize) -> f64
     requires { ⌜ (timesChecked (now timestamps) ≡ Checked.Accepted) × (i + 1 < length (now timestamps)) ⌝ }
-    ensures { λ r. ⌜ r ≡ intervalBits (getD (distances (now (timestamps .entry))) i (pos 0)) ⌝ }
+    ensures { λ r. ⌜ r ≡ ofInt binary64 (getD (distances (now (timestamps .entry))) i (pos 0)) ⌝ }
 {
-    ieee::bits_of(ieee::of_difference(timestamps[i + 1] - timestamps[i]))
+    ieee::of_difference(timestamps[i + 1] - timestamps[i])
 }
 
-// Writes the first 20 intervals to the front of a slice of 20, and returns how many there are.
-fn first_intervals(timestamps: &[i64], intervals: &mut [u64]) -> usize
-    requires { ⌜ (timesChecked (now timestamps) ≡ Checked.Accepted) × (length (now intervals) ≡ 20) ⌝ }
-    ensures count { λ r. ⌜ r ≡ length (take 20 (distances (now (timestamps .entry)))) ⌝ }
-    ensures front { λ r. ⌜ take r (now (intervals .exit)) ≡ map intervalBits (take 20 (distances (now (timestamps .entry)))) ⌝ }
+// Writes the first 20 intervals to the front of work, and returns how many there are.
+fn first_intervals(timestamps: &[i64], work: &mut [f64]) -> usize
+    requires { ⌜ (timesChecked (now timestamps) ≡ Checked.Accepted) × (20 ≤ length (now work)) ⌝ }
+    ensures count { λ r. ⌜ r ≡ length (firstIntervals (now (timestamps .entry))) ⌝ }
+    ensures front { λ r. ⌜ take r (now (work .exit)) ≡ firstIntervals (now (timestamps .entry)) ⌝ }
 {
     let mut n = 0;
     while n < 20 {
         if n + 1 >= timestamps.len() {
             return n;
         }
-        intervals[n] = interval_bits(timestamps, n);
+        work[n] = interval(timestamps, n);
         n += 1;
     }
     n
@@ -44,10 +44,9 @@ pub fn get_scrape_interval(timestamps: &[i64]) -> u64
     if timestamps.len() < 2 {
         return MAX_SILENCE_INTERVAL;
     }
-    let mut intervals = [0u64; 20];
-    let n = first_intervals(timestamps, &mut intervals);
     let mut work = [0.0f64; 40];
-    let scrape_interval = ieee::to_i64(quantile::quantile(0.6, &intervals[..n], &mut work));
+    let n = first_intervals(timestamps, &mut work);
+    let scrape_interval = ieee::to_i64(quantile::quantile_first(0.6, n, &mut work));
     if scrape_interval <= 0 {
         return MAX_SILENCE_INTERVAL;
     }

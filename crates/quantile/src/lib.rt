@@ -83,7 +83,7 @@ fn at_most(i: usize, n: usize) -> usize
 }
 
 // The quantile of the first n entries of work, which are no NaN and are left sorted.
-fn quantile_first(phi: f64, n: usize, work: &mut [f64]) -> f64
+pub fn quantile_first(phi: f64, n: usize, work: &mut [f64]) -> f64
     requires { ⌜ 2 * n ≤ length (now work) ⌝ }
     requires { ⌜ Sortable Order.Partial (take n (now work)) ⌝ }
     ensures { λ r. ⌜ r ≡ quantileSorted phi (sorted Order.Partial (take n (now (work .entry)))) ⌝ }

@@ -1,4 +1,4 @@
--- `estimate::interval_bits` meets its contract: two accepted times are near enough for their distance to fit.
+-- `estimate::interval` meets its contract: two accepted times are near enough for their distance to fit.
 -- Assumes nothing.
 use Prim.Native.Nat.{ℕ, _+_}
 use mathlib.Core.Path.{_≡_, _∙_, sym, ap}
@@ -6,7 +6,7 @@ use native.Mathlib.Omega.{arith}
 use native.Mathlib.Numerals.{add-one}
 use borrow.Author.Needs.{needs}
 use lib.IntN.{ℤ, pos, _-ℤ_}
-use lib.Ieee.{binary64, ofInt, toBits}
+use lib.Ieee.{binary64, ofInt}
 use lib.ListN.{getD}
 use mir.Syntax.{w64}
 use mir.Val.{SFits}
@@ -14,8 +14,8 @@ use mir.Facts.{toZ-ofZ}
 use Rattle.times.proofs.Milli.{within-sub, within-fits}
 use Rattle.config.specs.Estimate.{distances}
 use Rattle.config.proofs.Distances.{distance-at, within}
-use Rattle.config.proofs.estimate.interval_bits.Statement.{statement}
-use Rattle.config.proofs.estimate.interval_bits.Tie as tie
+use Rattle.config.proofs.estimate.interval.Statement.{statement}
+use Rattle.config.proofs.estimate.interval.Tie as tie
 
 module _ (c : tie.After-of-difference-arg2) where
   abbrev s : tie.Start
@@ -40,12 +40,10 @@ sub-of-difference c = rw (toZ-ofZ (second c), toZ-ofZ (first c)) (distance c)
 
 returns : tie.Need-returns
 returns c =
-    let d = c .before .before in
+    let d = c .before in
     let i = s d .args .i in
     let same : at d (i + 1) -ℤ at d i ≡ getD (distances (s d .args .timestamps .now)) i (pos 0) = rw (add-one i) (sym (distance-at (s d .args .timestamps .now) i (omega (arith, s d .pre .1)))) in
-    c .bits-of .ensures ∙ ap (toBits binary64) ((rw (toZ-ofZ (second d), toZ-ofZ (first d), toZ-ofZ (distance d)) at (c .before .of-difference .ensures)) ∙ ap (ofInt binary64) same)
+    (rw (toZ-ofZ (second d), toZ-ofZ (first d), toZ-ofZ (distance d)) at (c .of-difference .ensures)) ∙ ap (ofInt binary64) same
 
-pub interval-bits-spec : {M : Type 1} → statement M
-interval-bits-spec =
-    tie.close
-    (tie.spec (λ c. search needs) (λ c. search needs) (λ c. search needs) (λ c. omega arith) (λ c. omega arith) sub-of-difference (λ c κs. search needs) (λ c κs. search needs) returns)
+pub interval-spec : {M : Type 1} → statement M
+interval-spec = tie.close (tie.spec (λ c. search needs) (λ c. search needs) (λ c. search needs) (λ c. omega arith) (λ c. omega arith) sub-of-difference (λ c κs. search needs) returns)
