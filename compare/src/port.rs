@@ -8,6 +8,7 @@ mod exported;
 
 use crate::call::{Call, Case, Outcome};
 use exported::*;
+use original::exposed::Settings;
 
 /// Whether the archive has the call.
 pub fn has(call: Call) -> bool {
@@ -27,7 +28,7 @@ pub fn outcome(call: Call, case: &Case) -> Outcome {
     let Case { timestamps, values, pre, limit, time, .. } = case;
     o.number = match call {
         Call::Prepare => prepare(timestamps, values, *pre, &mut o.prepared, &mut o.index),
-        Call::Settle => settle(case, &mut o),
+        Call::Settle => settle(timestamps, &case.settings, &mut o),
         Call::Run => run(case, &mut o),
         Call::SettledRun => settled_run(case, &mut o),
         Call::Crossings => {
@@ -53,9 +54,8 @@ pub fn prepare(
     panic!("the archive does not have harzoulin_prepare")
 }
 
-fn settle(case: &Case, o: &mut Outcome) -> u64 {
-    let s = &case.settings;
-    let times = Times::of(&case.timestamps);
+pub fn settle(timestamps: &[i64], s: &Settings, o: &mut Outcome) -> u64 {
+    let times = Times::of(timestamps);
     #[cfg(port_settle)]
     return unsafe {
         ask!(

@@ -1,15 +1,16 @@
 //! `differ WHAT --cases N --seed S` compares the port with its judge on N generated calls; WHAT is
 //! prepare, settle, run or settled_run, which the Rust judges, crossings or nearest, which the model
 //! judges as it does the step and the rollup that the Rust does not have, or cuts: accepted runs with the
-//! settled runs that they are cut into, or all (what the archive has the functions for). With `--rollup R`
-//! every generated run, settled run and cut asks rollup R, but for those that are to name none.
+//! settled runs that they are cut into, or reaches: settle of every estimate of `inputs::reaches`, however
+//! many cases are asked for, or all (what the archive has the functions for). With `--rollup R` every
+//! generated run, settled run and cut asks rollup R, but for those that are to name none.
 
 use std::collections::BTreeMap;
 use std::process::exit;
 
 use compare::arguments::{if_given, number};
 use compare::call::{Call, Case};
-use compare::inputs::cases;
+use compare::inputs::{cases, reaches};
 use compare::judge::ROLLUPS;
 use compare::rng::Rng;
 use compare::{cuts, judge, oracle, port, shrink};
@@ -19,6 +20,7 @@ use compare::{cuts, judge, oracle, port, shrink};
 enum What {
     One(Call),
     Cuts,
+    Reaches,
 }
 
 /// A call, with a seed for its cut.
@@ -32,38 +34,47 @@ impl What {
         if cuts::CALLS.into_iter().all(port::has) {
             all.push(("cuts", What::Cuts));
         }
+        if port::has(Call::Settle) {
+            all.push(("reaches", What::Reaches));
+        }
         all
     }
 
-    fn generated(self, rng: &mut Rng, rollup: Option<u32>) -> Generated {
+    /// So many cases, the largest sizes and then generated ones; every reach, however many are asked for.
+    fn cases(
+        self,
+        cases: u64,
+        seed: u64,
+        rollup: Option<u32>,
+    ) -> Box<dyn Iterator<Item = Generated>> {
+        let mut rng = Rng::new(seed);
         match self {
-            What::One(call) => (call, cases::case(rng, call, rollup), 0),
-            What::Cuts => {
-                let call = rng.pick(&[Call::Run, Call::SettledRun]);
-                (call, cases::accepted(rng, call, rollup), rng.bits())
+            What::One(call) => {
+                let generated = (0..cases).map(move |_| cases::case(&mut rng, call, rollup));
+                let cases = cases::longest(call).chain(generated).take(cases as usize);
+                Box::new(cases.map(move |case| (call, case, 0)))
             }
-        }
-    }
-
-    /// The cases that come before the generated ones.
-    fn stated(self) -> Box<dyn Iterator<Item = Generated>> {
-        match self {
-            What::One(call) => Box::new(cases::longest(call).map(move |case| (call, case, 0))),
-            What::Cuts => Box::new([].into_iter()),
+            What::Cuts => Box::new((0..cases).map(move |_| {
+                let call = rng.pick(&[Call::Run, Call::SettledRun]);
+                (call, cases::accepted(&mut rng, call, rollup), rng.bits())
+            })),
+            What::Reaches => {
+                Box::new(reaches::estimates().map(|e| (Call::Settle, reaches::case(e), 0)))
+            }
         }
     }
 
     /// The number under which an agreement is counted, or what differs.
     fn disagreement(self, call: Call, case: &Case, seed: u64) -> Result<u64, String> {
         match self {
-            What::One(_) => disagreement(call, case),
+            What::One(_) | What::Reaches => disagreement(call, case),
             What::Cuts => cuts::disagreement(call, case, seed),
         }
     }
 
     fn counted(self) -> &'static str {
         match self {
-            What::One(_) => "number (0 is accepted)",
+            What::One(_) | What::Reaches => "number (0 is accepted)",
             What::Cuts => "pieces (10 is ten or more)",
         }
     }
@@ -85,19 +96,22 @@ fn main() {
     if all.is_empty() {
         usage()
     }
-    let bad: u64 = all.iter().map(|(name, what)| compare(name, *what, cases, seed, rollup)).sum();
-    println!("{} cases, {bad} disagreements", cases * all.len() as u64);
+    let (mut compared, mut bad) = (0, 0);
+    for (name, what) in all {
+        let (more, worse) = compare(name, what, cases, seed, rollup);
+        (compared, bad) = (compared + more, bad + worse);
+    }
+    println!("{compared} cases, {bad} disagreements");
     exit((bad > 0) as i32)
 }
 
-/// Compares one of them; gives the number of disagreements.
-fn compare(name: &str, what: What, cases: u64, seed: u64, rollup: Option<u32>) -> u64 {
-    let mut rng = Rng::new(seed);
+/// Compares one of them; gives the number of cases and of disagreements.
+fn compare(name: &str, what: What, cases: u64, seed: u64, rollup: Option<u32>) -> (u64, u64) {
     let mut agreed = BTreeMap::new();
     let mut shortest: Option<Generated> = None;
-    let mut bad = 0;
-    let generated = (0..cases).map(|_| what.generated(&mut rng, rollup));
-    for (call, case, seed) in what.stated().chain(generated).take(cases as usize) {
+    let (mut compared, mut bad) = (0, 0);
+    for (call, case, seed) in what.cases(cases, seed, rollup) {
+        compared += 1;
         match what.disagreement(call, &case, seed) {
             Ok(number) => *agreed.entry(number).or_insert(0) += 1,
             Err(_) => {
@@ -109,7 +123,8 @@ fn compare(name: &str, what: What, cases: u64, seed: u64, rollup: Option<u32>) -
             }
         }
     }
-    println!("{name}: {cases} cases from seed {seed}, {bad} disagreements");
+    let from = if let What::Reaches = what { String::new() } else { format!(" from seed {seed}") };
+    println!("{name}: {compared} cases{from}, {bad} disagreements");
     let rows: Vec<String> = agreed.iter().map(|(number, n)| format!("{number}: {n}")).collect();
     println!("  agreed, by {}: {}", what.counted(), rows.join(", "));
     if let Some((call, case, seed)) = shortest {
@@ -117,7 +132,7 @@ fn compare(name: &str, what: What, cases: u64, seed: u64, rollup: Option<u32>) -
         let case = shrink::shrink(case, |case| differs(case).is_err());
         println!("  the shortest, made small:\n{case}\n  {}", differs(&case).unwrap_err());
     }
-    bad
+    (compared, bad)
 }
 
 /// The number that both give, or what differs. A panic of the judge is a disagreement.

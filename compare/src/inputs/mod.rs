@@ -4,6 +4,7 @@ pub mod cases;
 pub mod crossings;
 pub mod floats;
 pub mod nearest;
+pub mod reaches;
 pub mod series;
 pub mod settings;
 pub mod until_next;

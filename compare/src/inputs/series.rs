@@ -79,7 +79,7 @@ pub const KINDS: [(&str, fn(usize) -> (Vec<i64>, Vec<f64>)); 3] =
 /// A counter with restarts: nearly every window stands in order.
 pub fn counter(readings: usize) -> (Vec<i64>, Vec<f64>) {
     let mut count = 0.0;
-    minutely(readings, |rng| {
+    minutely(1, readings, |rng| {
         count = if rng.once_in(20_000) { 0.0 } else { count + rng.between(0, 40) as f64 };
         count
     })
@@ -88,7 +88,7 @@ pub fn counter(readings: usize) -> (Vec<i64>, Vec<f64>) {
 /// Hundredths of a degree: a walk with noise.
 fn probe(readings: usize) -> (Vec<i64>, Vec<f64>) {
     let mut level = 2_000;
-    minutely(readings, |rng| {
+    minutely(1, readings, |rng| {
         level += rng.between(-5, 5);
         (level + rng.between(-20, 20)) as f64 / 100.0
     })
@@ -96,12 +96,21 @@ fn probe(readings: usize) -> (Vec<i64>, Vec<f64>) {
 
 /// Values from 0 to 1, each drawn by itself.
 fn scattered(readings: usize) -> (Vec<i64>, Vec<f64>) {
-    minutely(readings, Rng::unit)
+    minutely(1, readings, Rng::unit)
+}
+
+/// The times of readings once a minute, with jitter and gaps.
+pub fn minutes(seed: u64, readings: usize) -> Vec<i64> {
+    minutely(seed, readings, |_| 0.0).0
 }
 
 /// Readings once a minute, with jitter and gaps.
-fn minutely(readings: usize, mut value: impl FnMut(&mut Rng) -> f64) -> (Vec<i64>, Vec<f64>) {
-    let mut rng = Rng::new(1);
+fn minutely(
+    seed: u64,
+    readings: usize,
+    mut value: impl FnMut(&mut Rng) -> f64,
+) -> (Vec<i64>, Vec<f64>) {
+    let mut rng = Rng::new(seed);
     let mut time = 0;
     let pairs = (0..readings).map(|_| {
         time += 60_000 + rng.between(-500, 500);

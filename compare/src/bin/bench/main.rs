@@ -10,6 +10,9 @@
 //! `bench growth [READINGS]`: nanoseconds a reading of some runs, from 10,000 readings up to so many.
 //! `bench crossings [READINGS]`, `bench nearest [READINGS]`: the port's call beside the plain loops of
 //! `plain`, which check the same rows. `ratio` is the port's time over the Rust's.
+//! `bench settle`: nanoseconds of settle on the series of a panel, and of its parts.
+
+mod settle;
 
 use std::process::exit;
 use std::sync::Arc;
@@ -38,6 +41,7 @@ fn main() {
     match words.first().map(String::as_str) {
         Some("prepare") if port::has(Call::Prepare) => prepare(readings.unwrap_or(15_800_000)),
         Some("run") if port::has(Call::Run) => run(readings.unwrap_or(1_000_000)),
+        Some("settle") if port::has(Call::Settle) => settle::settle(),
         Some("growth") if port::has(Call::Run) => growth(readings.unwrap_or(16_000_000)),
         Some("crossings") if port::has(Call::Crossings) => {
             crossings(readings.unwrap_or(15_800_000))
@@ -304,7 +308,8 @@ fn best(mut round: impl FnMut() -> f64) -> f64 {
 
 fn usage() -> ! {
     eprintln!(
-        "bench prepare|run|growth|crossings|nearest [READINGS], with an archive that has the call"
+        "bench prepare|run|growth|crossings|nearest [READINGS] or bench settle, with an archive that \
+         has the call"
     );
     exit(2)
 }
