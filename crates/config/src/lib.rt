@@ -1,4 +1,5 @@
 // Settling: from the times of a series and a call's settings to its window and its reach.
+#![tactic(auto)]
 
 pub mod estimate;
 pub mod reach;

@@ -1,5 +1,6 @@
 // The exported C functions, declared in include/harzoulin.h.
 // Each returns the number of its refusal (docs/REFUSALS.md), 0 where the call was accepted, and sets *index, to 0 where there is none.
+#![tactic(auto)]
 
 pub mod merged;
 pub mod prepared;

@@ -1,4 +1,5 @@
 // One series from two logs of the same readings.
+#![tactic(auto)]
 
 mod call;
 mod joined;

@@ -1,4 +1,5 @@
 // Rust's orders of floats, by which lists are sorted, and the lesser and the greater of two numbers.
+#![tactic(auto)]
 
 ghost use Rattle.std.specs.Prelude.{◌≡◌, cond};
 ghost use Rattle.std.specs.Float.Ieee.{lt};

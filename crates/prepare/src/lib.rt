@@ -1,4 +1,5 @@
 // The values of a checked series after a preparing step.
+#![tactic(auto)]
 
 ghost use Rattle.std.specs.Prelude.{◌≡◌, length};
 ghost use Rattle.ieee.specs.Patterns.{floats, patterns};

@@ -1,5 +1,6 @@
 // Quantiles of a window: the median and the median absolute deviation are quantiles too. NaN is left
 // out, the rest is sorted by `partial_cmp`, and the two values next to the rank are weighted.
+#![tactic(auto)]
 
 ghost use Rattle.std.specs.Prelude.{◌≡◌, ◌++◌, ◌*◌, ◌≤◌, min, length, take, drop};
 ghost use Rattle.ieee.specs.Patterns.{floats};

@@ -1,5 +1,6 @@
 // The window record at an output time, from the indexes that the searches found: i readings stand at or before the
 // window's start, and j at or before the output time.
+#![tactic(auto)]
 
 ghost use Rattle.std.specs.Prelude.{◌≡◌, length};
 ghost use Rattle.std.proofs.Math.Option.{get_or};

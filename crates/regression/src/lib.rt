@@ -1,4 +1,5 @@
 // The least-squares line through a window, over seconds since an intercept time.
+#![tactic(auto)]
 
 ghost use Rattle.std.specs.Prelude.{◌≡◌, ℕ, ◌<◌, pos, ◌-ℤ◌, length, get_or};
 ghost use Rattle.std.specs.Int.{w64};

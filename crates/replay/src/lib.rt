@@ -1,5 +1,6 @@
 // What the programs that replay a list of stored answers share: the tally of cases and differences,
 // and the lines that report it. A program has a function that replays one case, and one loop.
+#![tactic(auto)]
 
 ghost use Rattle.std.specs.Prelude.{cond, false, ◌≡◌, ◌<◌, eqb, drop, length};
 ghost use Rattle.replay.specs.Tally.{After, Counted, differed};

@@ -1,5 +1,7 @@
 // Replays the list `ieee`: one operation of binary64 a case. Its words are the operation's number, two
 // operands and the Rust's answer.
+#![tactic(auto)]
+
 use libc::STDIN_FILENO;
 use replay::{Case, Tally};
 use vectors::STEP;

@@ -1,5 +1,7 @@
 // Replays the list `math`. A case's words are a function's number, the number of values, the values, the
 // parameter where the function has one, and the Rust's answer.
+#![tactic(auto)]
+
 ghost use Rattle.std.specs.Prelude.{◌*◌, ◌≤◌, length};
 
 use libc::STDIN_FILENO;

@@ -1,5 +1,7 @@
 // Replays the list `prepare`. A case's words are the preparing step, the number of readings, their times,
 // their values, and the values as the Rust prepared them, or the model where the Rust does not have the step.
+#![tactic(auto)]
+
 ghost use Rattle.std.specs.Prelude.{◌≤◌, length};
 
 use libc::STDIN_FILENO;

@@ -1,5 +1,7 @@
 // Replays the list `regression`. A case's words are the function's number, the number of readings, their
 // values, the intercept time, their times, and the Rust's value at the intercept and slope.
+#![tactic(auto)]
+
 ghost use Rattle.std.specs.Prelude.{◌≡◌, length};
 
 use libc::STDIN_FILENO;

@@ -2,6 +2,8 @@
 // time, the values beside the window, whether a reading follows and its time, output time, window), the number of
 // readings, their times, their values, a word that says where the port departs from the Rust, and the answers of
 // the 49 rollups.
+#![tactic(auto)]
+
 ghost use Rattle.std.specs.Prelude.{◌≡◌, ◌≤◌, ◌<◌, leb, nat_abs, length};
 ghost use Rattle.window.specs.Types.{record_limit};
 ghost use Rattle.rollup.specs.Eval.{Ready};

@@ -3,6 +3,8 @@
 // the port departs from the Rust, the number of output times, and that many answers of each of the 49 rollups. Where
 // a run is refused there are no output times, and the refusal's number and index stand for window and reach.
 // Where it is accepted, the settled run with the stored window and reach must give the same count and answers.
+#![tactic(auto)]
+
 ghost use Rattle.std.specs.Prelude.{◌≤◌, ◌<◌, length};
 
 use libc::STDIN_FILENO;

@@ -1,5 +1,7 @@
 // Replays the list `search`: the hinted search, the estimate, the reach of an estimate, the grid and the
 // per-call table. A case's first word says which, and the last ones are the Rust's answer.
+#![tactic(auto)]
+
 ghost use Rattle.std.specs.Prelude.{ℕ, ◌≤◌, ◌<◌};
 ghost use Rattle.times.specs.Grid.{OnGrid};
 

@@ -1,5 +1,6 @@
 // What the programs that replay the lists `settle` and `run` share: the words of a case that are settings, and
 // those that are what they settle to.
+#![tactic(auto)]
 
 ghost use Rattle.std.specs.Prelude.{true, ◌≡◌, ◌<◌};
 ghost use Rattle.config.specs.declared.settle.Settled.TheVariants as Answers;

@@ -1,5 +1,7 @@
 // Replays the list `settle`. A case's words are the number of times, the times, ten settings, and the
 // Rust's window, reach and number of output times.
+#![tactic(auto)]
+
 use libc::STDIN_FILENO;
 use replay::{Case, Tally};
 use vectors::STEP;

@@ -1,5 +1,7 @@
 // Replays the list `sort`. A case's words are an order's number, the number of values, the values, and the
 // values as the Rust sorts them.
+#![tactic(auto)]
+
 ghost use Rattle.std.specs.Prelude.{◌*◌, ◌≤◌, length};
 
 use libc::STDIN_FILENO;

@@ -2,6 +2,8 @@
 // nothing has to be known of the guess. The digits are the whole number r nearest to the root of some m * 2^52, the only
 // one with r * r - r < m * 2^52 <= r * r + r: the root is never half way between two, since (r + 1/2)^2 is not whole.
 // A unit is the smallest f64, 2^-1074.
+#![tactic(auto)]
+
 ghost use Rattle.std.specs.Prelude.{◌≡◌, ◌+◌, ◌*◌, ◌/◌, ◌^◌, ◌≤◌, ◌<◌};
 ghost use Rattle.std.specs.Float.{binary64};
 ghost use Rattle.std.specs.Float.Ieee.{of_bits};

@@ -1,5 +1,6 @@
 // Run and settled run: from a series, a preparing step, a rollup and settings to one number per output time and a count.
 // On a refusal every slice is as it was.
+#![tactic(auto)]
 
 ghost use Rattle.std.specs.Prelude.{◌≡◌};
 ghost use Rattle.series.specs.Answers.{outcome};

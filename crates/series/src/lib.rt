@@ -1,4 +1,5 @@
 // A series of readings: where it is refused. The refusals of every call, and how a call answers, stand here too.
+#![tactic(auto)]
 
 mod checks;
 mod refusal;

@@ -1,4 +1,5 @@
 // A call's settings, and rows 6 to 11 of docs/REFUSALS.md, which turn them away.
+#![tactic(auto)]
 
 pub mod course;
 

@@ -1,4 +1,5 @@
 // The preparing steps, from the values' patterns to the prepared ones, one pass each.
+#![tactic(auto)]
 
 mod choice;
 

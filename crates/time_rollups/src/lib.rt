@@ -1,4 +1,5 @@
 // The rollups that read times: those of the window, and that of the next reading.
+#![tactic(auto)]
 
 pub mod candlestick;
 pub mod deriv;

@@ -1,4 +1,5 @@
 // Milliseconds, the grid of output times, and the search for a time. The laws on times that the layers above cite are in specs/ and proofs/.
+#![tactic(auto)]
 
 pub mod grid;
 pub mod search;

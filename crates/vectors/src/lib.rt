@@ -1,6 +1,7 @@
 // Reading a list of stored answers, as compare/ writes it: a first line that says how the list was
 // made, then words of 16 hexadecimal digits, each followed by one space or line end. A word is the
 // 64 bits of a number or of a binary64, so word k stands 17 × k bytes after the first line.
+#![tactic(auto)]
 
 ghost use Rattle.std.specs.Prelude.{◌≡◌, ℕ, ◌+◌, ◌*◌, ◌^◌, ◌≤◌, ◌<◌, pos, get_or, length};
 ghost use Rattle.std.specs.Int.{w64};
