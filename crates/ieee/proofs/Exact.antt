@@ -21,10 +21,14 @@ negative-exact n h = round_whole binary64 true (suc n) h
 
 pub value_number : (x : Float) (s : Bool) (a c : ℕ) → HasValue x s a c → is_nan x ≡ false
 unfolding is_nan
+value_number lib.Ieee.nan s a c v = elim v [ ]
+value_number (lib.Ieee.inf _) s a c v = elim v [ ]
 value_number (fin t m e) s a c v = refl
 
 pub value-rank : (x : Float) (s : Bool) (n : ℕ) → T (fits binary64 x) → HasValue x s n 1 → rank x ≡ placed most most s (n * 2 ^ 1074)
 unfolding rank
+value-rank lib.Ieee.nan s n f v = elim v [ ]
+value-rank (lib.Ieee.inf _) s n f v = elim v [ ]
 value-rank (fin t m e) s n f v = rw (v.0, sym (mul-one (units_of (fin t m e))) ∙ units_of_lem (fin t m e) s n 1 f v)
 
 -- n with the sign s

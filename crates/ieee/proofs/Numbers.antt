@@ -18,7 +18,7 @@ use Rattle.ieee.specs.Value.{seconds_of}
 
 units-finite : (f : Format) (s : Bool) (q k : ℕ) → finite (units f s q k) ≡ ltb (q * 2 ^ k) (2 ^ (low f + suc (emax f)))
 unfolding units
-units-finite f s q k = by-test (ltb (q * 2 ^ k) (2 ^ (low f + suc (emax f)))) (λ e. rw e (odd-finite _ s q k (low f))) (λ e. rw e)
+units-finite f s q k = by-test (ltb (q * 2 ^ k) (2 ^ (low f + suc (emax f)))) (λ e. rw e (odd-finite (suc (prec f)) s q k (low f))) (λ e. rw e)
 
 round-sign : (f : Format) (s t : Bool) (a b : ℕ) → finite (round f s a b) ≡ finite (round f t a b)
 unfolding round

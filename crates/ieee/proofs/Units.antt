@@ -49,6 +49,8 @@ units-fin s m e h = sym (div-mul_cancel (down e) (dvd-mul_left_of_dvd (down e) (
 
 -- whatever fraction a / c the value equals
 pub units_of_lem : (x : Float) (s : Bool) (a c : ℕ) → T (fits binary64 x) → HasValue x s a c → units_of x * c ≡ a * 2 ^ 1074
+units_of_lem nan s a c f v = elim v [ ]
+units_of_lem (inf _) s a c f v = elim v [ ]
 units_of_lem (fin t m e) s a c f v =
     eq_of_mul-eq-mul_right (down e) (down_pos e) (units_of (fin t m e) * c) (a * 2 ^ 1074)
     (mul_right_comm (units_of (fin t m e)) c (down e)
@@ -66,6 +68,8 @@ units-fin-lt s m e h =
     (subst (λ (n : ℕ). m * up e * 2 ^ 1074 < n) (mul_right_comm (2 ^ 1024) (down e) (2 ^ 1074)) (mul-lt-mul_of_pos_right h.small (pow_pos 1074))))
 
 pub units_lt : (x : Float) → T (fits binary64 x) → T (finite x) → units_of x < most
+units_lt nan f t = elim t [ ]
+units_lt (inf _) f t = elim t [ ]
 units_lt (fin s m e) f t = units-fin-lt s m e (held s m e f)
 
 pub units-le : (x : Float) → T (fits binary64 x) → units_of x ≤ most

@@ -3,11 +3,7 @@
 use Rattle.std.proofs.Common.{sym, ◌∙◌}
 use lib.Ieee.{binary64}
 use lib.Ieee.Bits.{nan_bits_above, nan_bits_is}
-use Rattle.ieee.proofs.is_nan_pattern.Statement.{statement}
-use Rattle.ieee.proofs.is_nan_pattern.Tie as tie
+use Rattle.ieee.proofs.is_nan_pattern.Goals as goal
 
-returns : tie.Need-returns
+pub returns : goal.returns
 returns c = sym (nan_bits_above binary64 c.args.b) ∙ nan_bits_is binary64 c.args.b
-
-pub is-nan-pattern-spec : {M : Type 1} → statement M
-is-nan-pattern-spec = tie.close (tie.spec returns)

@@ -7,8 +7,7 @@ use lib.Ieee.{Float, binary64, lt, eq, fits, is_nan, to_bits}
 use Rattle.ieee.specs.Value.{total_lt}
 use Rattle.ieee.proofs.Order.{eq-numbers, equal-patterns}
 use Rattle.ieee.proofs.Patterns.{same-if-number}
-use Rattle.ieee.proofs.total_lt.Statement.{statement}
-use Rattle.ieee.proofs.total_lt.Tie as tie
+use Rattle.ieee.proofs.total_lt.Goals as goal
 
 module _ (x y : Float) where
   less : lt x y ≡ true → true ≡ total_lt x y
@@ -27,25 +26,19 @@ module _ (x y : Float) where
   unfolding total_lt
   last l e s = rw (l, e, not-false (is_nan y) (sym (same-if-number y) ∙ s)) (simp and-true (same-if-number x))
 
-returns : tie.Need-returns
-returns c = less _ _ c.if1.true
+pub returns-then-x-y : goal.returns-then-x-y
+returns-then-x-y c = less _ _ c.if-x-y.true
 
-float-to-bits-result : tie.Need-float-to-bits-result
-float-to-bits-result c = subst (λ (b : Bool). T (not b)) (sym (eq-numbers _ _ c.if2.true).1) tt
+pub float_to_bits-result : goal.float_to_bits-result
+float_to_bits-result c = subst (λ (b : Bool). T (not b)) (sym (eq-numbers _ _ c.if-x-y-2.true).1) tt
 
-float-to-bits-result-2 : tie.Need-float-to-bits-result-2
-float-to-bits-result-2 c = subst (λ (b : Bool). T (not b)) (sym (eq-numbers _ _ c.if2.true).0) tt
+pub returns-then-x-y-2 : goal.returns-then-x-y-2
+returns-then-x-y-2 c =
+    let good = c.well_formed in
+    equal _ _ (subst T (sym good.0.1) tt) (subst T (sym good.1.0.1) tt) c.if-x-y.false c.if-x-y-2.true
 
-returns-2 : tie.Need-returns-2
-returns-2 c =
-    let good = c.before.before.well-formed in
-    equal _ _ (subst T (sym good.0.1) tt) (subst T (sym good.1.0.1) tt) c.before.if1.false c.if2.true
+pub returns-then-y : goal.returns-then-y
+returns-then-y c = number _ _ c.if-x-y.false c.if-x-y-2.false c.if-y.true
 
-returns-3 : tie.Need-returns-3
-returns-3 c = number _ _ c.before.before.if1.false c.before.if2.false c.if3.true
-
-returns-4 : tie.Need-returns-4
-returns-4 c = last _ _ c.before.before.if1.false c.before.if2.false c.if3.false
-
-pub total-lt-spec : {M : Type 1} → statement M
-total-lt-spec = tie.close (tie.spec returns float-to-bits-result float-to-bits-result-2 returns-2 returns-3 returns-4)
+pub returns-else-y : goal.returns-else-y
+returns-else-y c = last _ _ c.if-x-y.false c.if-x-y-2.false c.if-y.false
