@@ -1,5 +1,5 @@
 //! Links the port's archive, if it is there, and says which of the exported functions it has.
-//! The archive is the one that `rt staticlib harzoulin` writes, or the one that HARZOULIN_LIB names.
+//! The archive is the one that `tools/archive` writes, or the one that HARZOULIN_LIB names.
 
 use std::path::PathBuf;
 

@@ -1,4 +1,4 @@
-# The archive that HARZOULIN_LIB names by its whole path, or else the one that `rt staticlib harzoulin` writes.
+# The archive that HARZOULIN_LIB names by its whole path, or else the one that `tools/archive` writes.
 usual := ../../target/staticlib/libharzoulin.a
 HARZOULIN_LIB ?= $(usual)
 header := ../../include/harzoulin.h
@@ -12,7 +12,7 @@ $(programs):
 	mkdir -p $@
 
 $(usual):
-	cd ../.. && rt staticlib harzoulin
+	cd ../.. && tools/archive
 
 # Another archive may be named than the last time.
 always:

@@ -1,4 +1,4 @@
-/* The rollup core: figures from a series of readings. Build: rt staticlib harzoulin.
+/* The rollup core: figures from a series of readings. Build: tools/archive.
  *
  * A slice is a pointer and a length, the number of its entries. Times are milliseconds. A value is
  * the 64 bits of a binary64, so an array of doubles may be handed where a uint64_t * is asked; a

@@ -1,5 +1,5 @@
 //! Links the proved core: the archive that HARZOULIN_LIB names by its whole path, or else the one
-//! that `rt staticlib harzoulin` writes at the root of the repository.
+//! that `tools/archive` writes at the root of the repository.
 
 use std::path::PathBuf;
 use std::{env, fs};
@@ -24,7 +24,7 @@ fn link() -> Result<(), String> {
     println!("cargo::rerun-if-changed={name}");
     let bytes = fs::read(&archive).map_err(|error| {
         format!(
-            "no archive at {name} ({error}): write one by `rt staticlib harzoulin` at the root of \
+            "no archive at {name} ({error}): write one by `tools/archive` at the root of \
              the repository, or name another by HARZOULIN_LIB"
         )
     })?;

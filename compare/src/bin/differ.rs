@@ -151,7 +151,7 @@ fn usage() -> ! {
     eprintln!("differ WHAT [--cases N] [--seed S] [--rollup 0 to {}]", ROLLUPS.len() - 1);
     eprintln!("WHAT is all or one that the archive has");
     match &What::all()[..] {
-        [] => eprintln!("no archive was found: write it by `rt staticlib harzoulin`"),
+        [] => eprintln!("no archive was found: write it by `tools/archive`"),
         all => {
             let names: Vec<&str> = all.iter().map(|(name, _)| *name).collect();
             eprintln!("the archive has: {}", names.join(", "));

@@ -69,7 +69,7 @@ fn without_slices(case: Case) -> Case {
 fn main() {
     judge::quiet();
     if !Call::ALL.iter().all(|(_, call)| port::has(*call)) {
-        eprintln!("sizes needs an archive with all calls: write it by `rt staticlib harzoulin`");
+        eprintln!("sizes needs an archive with all calls: write it by `tools/archive`");
         exit(2)
     }
     let mut tally = Tally::default();

@@ -1,4 +1,4 @@
-// The exported C functions, declared in include/harzoulin.h.
+// The functions that C calls, over numbers and slices; `harzoulin_c` exports them, and include/harzoulin.h declares them.
 // Each returns the number of its refusal (docs/REFUSALS.md), 0 where the call was accepted, and sets *index, to 0 where there is none.
 #![tactic(auto)]
 

@@ -8,8 +8,7 @@ ghost use Rattle.harzoulin.specs.Exported.{crossed, exported};
 use crate::refuse;
 use merge_series::Merged;
 
-#[unsafe(no_mangle)]
-pub extern "C" fn harzoulin_merge(
+pub fn harzoulin_merge(
     first_timestamps: &[i64],
     first_values: &[u64],
     second_timestamps: &[i64],

@@ -9,8 +9,7 @@ use crate::refuse;
 use series::{Checked, Refusal};
 use steps::Step;
 
-#[unsafe(no_mangle)]
-pub extern "C" fn harzoulin_prepare(
+pub fn harzoulin_prepare(
     timestamps: &[i64],
     values: &[u64],
     pre: u32,

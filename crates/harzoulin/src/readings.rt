@@ -9,8 +9,7 @@ ghost use Rattle.harzoulin.specs.Readings.{nearest_outcome, placed};
 use crate::refuse;
 use crossings::{Found, Listed};
 
-#[unsafe(no_mangle)]
-pub extern "C" fn harzoulin_crossings(
+pub fn harzoulin_crossings(
     timestamps: &[i64],
     values: &[u64],
     limit: f64,
@@ -32,8 +31,7 @@ pub extern "C" fn harzoulin_crossings(
 }
 
 // Found is 1 and nearest the index, or both are 0 where there is no reading.
-#[unsafe(no_mangle)]
-pub extern "C" fn harzoulin_nearest(
+pub fn harzoulin_nearest(
     timestamps: &[i64],
     time: i64,
     found: &mut u64,

@@ -61,8 +61,7 @@ fn reply(figures: Figures, count: &mut u64, index: &mut u64) -> u64
     }
 }
 
-#[unsafe(no_mangle)]
-pub extern "C" fn harzoulin_run(
+pub fn harzoulin_run(
     timestamps: &[i64],
     values: &[u64],
     pre: u32,
@@ -113,8 +112,7 @@ pub extern "C" fn harzoulin_run(
     reply(figures, count, index)
 }
 
-#[unsafe(no_mangle)]
-pub extern "C" fn harzoulin_settled_run(
+pub fn harzoulin_settled_run(
     timestamps: &[i64],
     values: &[u64],
     pre: u32,

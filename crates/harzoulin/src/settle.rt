@@ -9,8 +9,7 @@ use config::settle::Settled;
 use settings::RollupConfig;
 
 // The settled window, the reach and the number of output times are set on acceptance only.
-#[unsafe(no_mangle)]
-pub extern "C" fn harzoulin_settle(
+pub fn harzoulin_settle(
     timestamps: &[i64],
     start: i64,
     end: i64,

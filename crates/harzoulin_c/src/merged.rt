@@ -1,0 +1,31 @@
+// Exported: the functions of `harzoulin::merged`.
+
+ghost use Rattle.std.specs.Prelude.{◌≡◌};
+ghost use Rattle.merge_series.specs.Call.{merge_of};
+ghost use Rattle.merge_series.specs.Merge.{series};
+ghost use Rattle.harzoulin.specs.Exported.{crossed, exported};
+
+#[unsafe(no_mangle)]
+pub extern "C" fn harzoulin_merge(
+    first_timestamps: &[i64],
+    first_values: &[u64],
+    second_timestamps: &[i64],
+    second_values: &[u64],
+    timestamps: &mut [i64],
+    values: &mut [u64],
+    length: &mut u64,
+    index: &mut u64,
+) -> u64
+    ensures { exported result index.new length.new (series timestamps.new values.new) ≡ crossed (merge_of (series first_timestamps.now first_values.now) (series second_timestamps.now second_values.now) (series timestamps.old values.old)) length.old }
+{
+    harzoulin::merged::harzoulin_merge(
+        first_timestamps,
+        first_values,
+        second_timestamps,
+        second_values,
+        timestamps,
+        values,
+        length,
+        index,
+    )
+}
