@@ -20,7 +20,7 @@ stored_and_read t = to_z w64 (of_z w64 t)
 
 -- is the number
 pub read_back : (t : ℤ) → mag t < 2 ^ 63 → stored_and_read t ≡ t
-read_back t h = to_z-of_z (record { sfits = h })
+read_back t h = to_z-of_z {w = w64} (record { sfits = h })
 
 -- so a test on what it reads back is the test on the numbers
 pub read : {a b : ℤ} → SFits w64 a → SFits w64 b → (test : ℤ → ℤ → Bool) → test (stored_and_read a) (stored_and_read b) ≡ test a b

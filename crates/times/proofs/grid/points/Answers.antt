@@ -15,8 +15,7 @@ use Rattle.times.specs.Milli.{Within}
 use Rattle.times.specs.Grid.{grid_size}
 use Rattle.times.proofs.Order.{offset-of}
 use Rattle.times.proofs.Milli.{within-sub, within-fits}
-use Rattle.times.proofs.grid.points.Statement.{statement}
-use Rattle.times.proofs.grid.points.Tie as tie
+use Rattle.times.proofs.grid.points.Goals as goal
 
 quot-by : (n : ℕ) (st : ℤ) → le_z (pos 1) st ≡ true → quot_z (pos n) st ≡ pos (n / nat_abs st)
 quot-by n (pos d) h = refl
@@ -26,7 +25,7 @@ bits-some : (st : ℤ) → le_z (pos 1) st ≡ true → 0 < of_z w64 st
 bits-some (pos d) h = leb-true 1 d h
 bits-some (negsuc d) h = absurd (false≢true h)
 
-module _ (c : tie.Start) where
+module _ (c : goal.Start) where
   steps : ℕ
   steps = nat_abs (c.args.end -ℤ c.args.start) / nat_abs c.args.step
 
@@ -46,21 +45,9 @@ module _ (c : tie.Start) where
   fits : SFits w64 (pos steps)
   fits = record { sfits = omega (arith, few) }
 
-sub-result : tie.Need-overflow-sub-result
-sub-result c = simp (to_z-of_z c.ranges.end, to_z-of_z c.ranges.start) (within-fits tt (wide c))
+pub overflow_cast-result : goal.overflow_cast-result
+overflow_cast-result c = simp (quotient c, to_z-of_z (fits c)) (tt, record { fits = omega (arith, few c) })
 
-div-result : tie.Need-nonzero-div-result
-div-result c = (bits-some c.args.step c.requires.step_positive, simp (quotient c) (fits c))
-
-cast-result : tie.Need-overflow-cast-result
-cast-result c = simp (quotient c, to_z-of_z (fits c)) (tt, record { fits = omega (arith, few c) })
-
-add-result : tie.Need-overflow-add-result
-add-result c = simp (quotient c, to_z-of_z (fits c)) (record { fits = omega (arith, few c) })
-
-returns : tie.Need-returns
+pub returns : goal.returns
 unfolding grid_size steps
 returns c = simp (quotient c, to_z-of_z (fits c))
-
-pub points-spec : {M : Type 1} → statement M
-points-spec = tie.close (tie.spec sub-result div-result cast-result add-result returns)

@@ -15,14 +15,13 @@ use Rattle.times.specs.Grid.{time_at}
 use Rattle.times.proofs.GridLaws.{time_within}
 use Rattle.times.proofs.Order.{offset}
 use Rattle.times.proofs.Milli.{within-sub, within-fits}
-use Rattle.times.proofs.grid.time_at.Statement.{statement}
-use Rattle.times.proofs.grid.time_at.Tie as tie
+use Rattle.times.proofs.grid.time_at.Goals as goal
 
 at_least : (k : ℕ) (st : ℤ) → le_z (pos 1) st ≡ true → k ≤ nat_abs (pos k *ℤ st)
 at_least k (pos d) h = omega (arith, mul-le-mul_left k (leb-true 1 d h))
 at_least k (negsuc d) h = absurd (false≢true h)
 
-module _ (c : tie.Start) where
+module _ (c : goal.Start) where
   within : Within time_limit (time_at c.args.start c.args.step c.args.k)
   within = time_within c.requires.spans c.args.k c.requires.below
 
@@ -33,23 +32,20 @@ module _ (c : tie.Start) where
   few : c.args.k < 2 ^ 63
   few = omega (arith, wide, at_least c.args.k c.args.step c.requires.spans.step_positive)
 
-cast-result : tie.Need-overflow-cast-result
-cast-result c = record { sfits = few c }
+pub overflow_cast-result : goal.overflow_cast-result
+overflow_cast-result c = record { sfits = few c }
 
-mul-result : tie.Need-overflow-mul-result
-mul-result c = simp (to_z_pos w64 (few c), to_z-of_z c.ranges.step) (within-fits tt (wide c))
+pub overflow_mul-result : goal.overflow_mul-result
+overflow_mul-result c = simp (to_z_pos w64 (few c), to_z-of_z c.ranges.step) (within-fits tt (wide c))
 
-add-result : tie.Need-overflow-add-result
+pub overflow_add-result : goal.overflow_add-result
 unfolding time_at
-add-result c =
+overflow_add-result c =
     simp (to_z_pos w64 (few c), to_z-of_z c.ranges.step, to_z-of_z (within-fits tt (wide c)), to_z-of_z c.ranges.start)
     (within-fits tt (within c))
 
-returns : tie.Need-returns
+pub returns : goal.returns
 unfolding time_at
 returns c =
     simp (to_z_pos w64 (few c), to_z-of_z c.ranges.step, to_z-of_z (within-fits tt (wide c)), to_z-of_z c.ranges.start)
     (to_z-of_z (within-fits tt (within c)))
-
-pub time-at-spec : {M : Type 1} → statement M
-time-at-spec = tie.close (tie.spec cast-result mul-result add-result returns)
