@@ -1,6 +1,5 @@
 -- `root::positive` meets its contract. A pattern stands for a whole number of units: itself below 2 ^ 52, which is shifted until it has 53 digits,
 -- and above that its digits with the leading one, times a power of two. Assumes nothing.
-use borrow.Author.Rules.{rules}
 use mathlib.Core.Path.{◌≡◌, sym, ap, ◌∙◌}
 use Prim.Native.Nat.{ℕ, suc, ◌+◌, ◌-◌, ◌*◌, ◌/◌, ◌%◌, ◌^◌, ◌≤◌, ◌<◌}
 use native.Mathlib.Nat.{mul-le-mul_right, mul-lt-mul_of_pos_right, mul_assoc, lt_of_not-le}
@@ -9,8 +8,7 @@ use lib.Pow.{pow-add, pow_mono, pow_pos}
 use lib.Count.{count_leading_zeros, leading_top}
 use Rattle.root.specs.Root.{Digits, root_of}
 use Rattle.root.proofs.Value.{sqrt-subnormal, sqrt-normal}
-use Rattle.root.proofs.positive.Statement.{statement}
-use Rattle.root.proofs.positive.Tie as tie
+use Rattle.root.proofs.positive.Goals as goal
 
 -- the leading zeros, and the number with all of them but 11 shifted out
 module _ (b : ℕ) (p : 0 < b) (h : b < 2 ^ 52) where
@@ -44,46 +42,25 @@ normal g x e h =
     let i : e + 1021 + 52 ≡ x + 1074 = omega arith in
     rw (i, pow-add 2 x 1074) (sym (mul_assoc g (2 ^ x) (2 ^ 1074)))
 
-cast-z : tie.Need-overflow-cast-z
-cast-z c = omega (arith, zeros c.before.args.b (omega arith) (omega arith))
+pub overflow_sub-z : goal.overflow_sub-z
+overflow_sub-z c = omega (arith, zeros c.args.b (omega arith) (omega arith))
 
-sub-z : tie.Need-overflow-sub-z
-sub-z c = omega (arith, zeros c.before.args.b (omega arith) (omega arith))
-
-shl-root : tie.Need-overflow-shl-root
-shl-root c = omega (arith, zeros c.before.args.b (omega arith) (omega arith))
-
-sub-root : tie.Need-overflow-sub-root
-sub-root c = omega (arith, zeros c.before.args.b (omega arith) (omega arith))
-
-root-requires : tie.Need-root-requires
-root-requires c κs =
-    let b = c.before.args.b in
+pub root-requires : goal.root-requires
+root-requires c =
+    let b = c.args.b in
     let p : 0 < b = omega arith in
     let h : b < 2 ^ 52 = omega arith in
     (rw (no_wrap b p h) (shifted b p h), omega (arith, zeros b p h))
 
-add-root : tie.Need-overflow-add-root
-add-root c = search rules
-
-add-root-2 : tie.Need-overflow-add-root-2
-add-root-2 c = search rules
-
-root-requires-2 : tie.Need-root-requires-2
-root-requires-2 c κs = search rules
-
-returns : tie.Need-returns
-returns c =
-    let b = c.before.before.args.b in
+pub returns-then-b-lt-LEAD : goal.returns-then-b-lt-LEAD
+returns-then-b-lt-LEAD c =
+    let b = c.args.b in
     let p : 0 < b = omega arith in
     let h : b < 2 ^ 52 = omega arith in
     c.root.ensures ∙ ap root_of (subnormal b p h) ∙ sym (sqrt-subnormal b p h)
 
-returns-2 : tie.Need-returns-2
-returns-2 c =
-    let b = c.before.before.args.b in
+pub returns-else-b-lt-LEAD : goal.returns-else-b-lt-LEAD
+returns-else-b-lt-LEAD c =
+    let b = c.args.b in
     let e : b / 2 ^ 52 ≡ suc (b / 2 ^ 52 - 1) = omega arith in
-    c.root2.ensures ∙ ap root_of (normal (2 ^ 52 + b % 2 ^ 52) (b / 2 ^ 52 - 1) (b / 2 ^ 52) e) ∙ sym (sqrt-normal b (b / 2 ^ 52 - 1) (omega arith) e)
-
-pub positive-spec : {M : Type 1} → statement M
-positive-spec = tie.close (tie.spec cast-z sub-z shl-root sub-root root-requires add-root add-root-2 root-requires-2 returns returns-2)
+    c.root-else-b-lt-LEAD.ensures ∙ ap root_of (normal (2 ^ 52 + b % 2 ^ 52) (b / 2 ^ 52 - 1) (b / 2 ^ 52) e) ∙ sym (sqrt-normal b (b / 2 ^ 52 - 1) (omega arith) e)

@@ -1,12 +1,12 @@
 -- `root::sqrt` meets its contract. The tests tell the definition's cases apart, and a positive finite value is what its pattern stands for. Assumes nothing.
-use borrow.Author.Rules.{rules}
 use borrow.Author.Tests.{ltb-true, ltb-false}
-use mathlib.Core.Path.{◌≡◌, refl, sym, ap, ◌∙◌, subst}
+use mathlib.Core.Path.{◌≡◌, refl, sym, ap, ◌∙◌}
 use mathlib.Core.Bool.{true, false}
 use mathlib.Core.Logic.{inl, inr}
-use Prim.Native.Nat.{ℕ, zero, suc, ◌+◌, ◌-◌, ◌*◌, ◌/◌, ◌^◌, ◌≤◌, ◌<◌}
+use Prim.Native.Nat.{ℕ, zero, suc, ◌+◌, ◌*◌, ◌/◌, ◌^◌, ◌≤◌, ◌<◌}
 use native.Mathlib.Nat.{eq-zero-or-pos, not-le_of_lt, mul-pos, zero-lt-suc}
 use native.Mathlib.Omega.{arith}
+use denote.Floats.{passes}
 use lib.IntN.{ℤ}
 use lib.Dec.{T}
 use lib.Ieee.{Float, nan, inf, fin, binary64, up, down, lt, fits, of_bits, to_bits}
@@ -15,8 +15,7 @@ use lib.Ieee.Fits.{up_pos, kept-lt}
 use lib.Ieee.Bits.{of_bits-to_bits}
 use Rattle.root.specs.Root.{sqrt_of}
 use Rattle.root.proofs.Value.{units_of_lem}
-use Rattle.root.proofs.sqrt.Statement.{statement}
-use Rattle.root.proofs.sqrt.Tie as tie
+use Rattle.root.proofs.sqrt.Goals as goal
 
 -- a positive value's pattern is not 0
 not-zero : lt (of_bits binary64 0) (of_bits binary64 0) ≡ false
@@ -67,33 +66,18 @@ neither (fin s zero e) p q = refl
 neither (fin true (suc m) e) p q = absurd (omega (arith, ltb-false 0 (suc m * up e * 1 + 0 * down e) q, mul-pos (zero-lt-suc m) (up_pos e)))
 neither (fin false (suc m) e) p q = absurd (omega (arith, ltb-false (0 * down e) (suc m * up e * 1) p, mul-pos (zero-lt-suc m) (up_pos e)))
 
--- the format holds the argument
-held : (c : tie.Start) → T (fits binary64 c.args.x)
-held c = subst T (sym c.well-formed.0.1) tt
+pub positive-requires : goal.positive-requires
+positive-requires c = (rw c.bits_of-b.ensures (above_zero c.args.x (passes _ c.well_formed.0.1) c.if-x.true), c.if-b-lt9218868437227405312.true)
 
-bits-of-requires : tie.Need-bits-of-requires
-bits-of-requires c κs = search rules
+pub returns-then-b-lt9218868437227405312 : goal.returns-then-b-lt9218868437227405312
+returns-then-b-lt9218868437227405312 c =
+    c.positive.ensures ∙ ap sqrt_of (ap (of_bits binary64) c.bits_of-b.ensures ∙ of_bits-to_bits binary64 c.args.x (passes _ c.well_formed.0.1))
 
-positive-requires : tie.Need-positive-requires
-positive-requires c κs =
-    let start = c.before.before.before in
-    (rw c.before.bits_of.ensures (above_zero start.args.x (held start) c.before.before.if1.true), c.if2.true)
+pub returns-else-b-lt9218868437227405312 : goal.returns-else-b-lt9218868437227405312
+returns-else-b-lt9218868437227405312 c = infinite c.args.x (passes _ c.well_formed.0.1) c.if-x.true (rw c.bits_of-b.ensures at c.if-b-lt9218868437227405312.false)
 
-returns : tie.Need-returns
-returns c =
-    let start = c.before.before.before.before in
-    c.positive.ensures ∙ ap sqrt_of (ap (of_bits binary64) c.before.before.bits_of.ensures ∙ of_bits-to_bits binary64 start.args.x (held start))
+pub returns-then-x-2 : goal.returns-then-x-2
+returns-then-x-2 c = c.nan.ensures ∙ negative c.args.x c.if-x-2.true
 
-returns-2 : tie.Need-returns-2
-returns-2 c =
-    let start = c.before.before.before in
-    infinite start.args.x (held start) c.before.before.if1.true (rw c.before.bits_of.ensures at c.if2.false)
-
-returns-3 : tie.Need-returns-3
-returns-3 c = c.nan.ensures ∙ negative c.before.before.before.args.x c.before.if3.true
-
-returns-4 : tie.Need-returns-4
-returns-4 c = neither c.before.before.args.x c.before.if1.false c.if3.false
-
-pub sqrt-spec : {M : Type 1} → statement M
-sqrt-spec = tie.close (tie.spec bits-of-requires positive-requires (λ c κs. search rules) returns returns-2 returns-3 returns-4)
+pub returns-else-x-2 : goal.returns-else-x-2
+returns-else-x-2 c = neither c.args.x c.if-x.false c.if-x-2.false
