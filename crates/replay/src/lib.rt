@@ -2,10 +2,10 @@
 // and the lines that report it. A program has a function that replays one case, and one loop.
 #![tactic(auto)]
 
-ghost use Rattle.std.specs.Prelude.{cond, false, ◌≡◌, ◌<◌, eqb, drop, length};
+ghost use Rattle.std.specs.Prelude.{IfOk, cond, false, ◌≡◌, ◌≤◌, ◌<◌, eqb, drop, length};
 ghost use Rattle.replay.specs.Tally.{After, Counted, differed};
 
-use libc::STDOUT_FILENO;
+use std::io::{self, Read};
 
 // Zeros, as many as the longest list may have bytes. The `ensures` gives the length alone, which lending
 // the array as a slice needs.
@@ -13,6 +13,23 @@ pub fn space() -> [u8; 2097152]
     ensures { 2097152 ≡ length result }
 {
     [0; 2097152]
+}
+
+// Reads standard input until it ends or the space is full, and returns how many bytes it put at the start
+// of the space.
+pub fn read(rt: &impl Input, space: &mut [u8]) -> io::Result<usize>
+    ensures { IfOk result (λ n. n ≤ length space.new) }
+{
+    let mut reader = rt.reader();
+    let mut n = 0;
+    while n < space.len() {
+        let more = reader.read(&mut space[n..])?;
+        if more == 0 {
+            break;
+        }
+        n += more;
+    }
+    Ok(n)
 }
 
 // A case that was replayed: how many bytes it has, and whether the port gave the stored answer.
@@ -41,7 +58,7 @@ pub fn flag(b: bool) -> u64
 
 // The byte where the next case begins, the numbers of cases and of differences so far, and the first
 // case that differed: its number, from 1 on, and where it stands.
-#[derive(Drop)]
+#[derive(Clone, Copy)]
 pub struct Tally {
     pub at: usize,
     pub cases: usize,
@@ -114,35 +131,31 @@ impl Tally {
 }
 
 // Writes the numbers of cases and of differences.
-fn print_counts(tally: Tally) {
-    io::print_decimal(STDOUT_FILENO, tally.cases as u64);
-    io::write_all(STDOUT_FILENO, b" cases, ");
-    io::print_decimal(STDOUT_FILENO, tally.differences as u64);
-    io::write_all(STDOUT_FILENO, b" differences\n");
+fn print_counts(rt: &impl Print, tally: Tally) -> io::Result<()> {
+    println!(rt; "{} cases, {} differences", tally.cases, tally.differences)
 }
 
 // Writes the first case that differed, as it stands in the text.
-fn print_first(text: &[u8], tally: Tally) {
+fn print_first(rt: &impl Print, text: &[u8], tally: Tally) -> io::Result<()> {
     let from = tally.from;
     let to = tally.to;
-    io::write_all(STDOUT_FILENO, b"case ");
-    io::print_decimal(STDOUT_FILENO, tally.first as u64);
-    io::write_all(STDOUT_FILENO, b": ");
+    print!(rt; "case {}: ", tally.first)?;
     if from <= to {
         if to <= text.len() {
-            io::write_all(STDOUT_FILENO, &text[from..to]);
+            rt.write_all(&text[from..to])?;
         }
     }
+    Ok(())
 }
 
 // Reports a tally on standard output, and returns whether nothing differed.
-pub fn report(text: &[u8], tally: Tally) -> bool
-    ensures { result ≡ eqb tally.differences 0 }
+pub fn report(rt: &impl Print, text: &[u8], tally: Tally) -> io::Result<bool>
+    ensures { IfOk result (λ same. same ≡ eqb tally.differences 0) }
 {
-    print_counts(tally);
+    print_counts(rt, tally)?;
     if tally.differences == 0 {
-        return true;
+        return Ok(true);
     }
-    print_first(text, tally);
-    false
+    print_first(rt, text, tally)?;
+    Ok(false)
 }
