@@ -5,7 +5,6 @@ use mathlib.Core.List.{List, [], ◌∷◌}
 use mathlib.Core.Bool.{true, false}
 use Prim.Native.Nat.{ℕ}
 use native.Mathlib.Omega.{arith}
-use borrow.Author.Rules.{rules}
 use lib.IntN.{ℤ, pos}
 use mir.Syntax.{w64}
 use mir.ValLaws.{to_z-of_z}
@@ -13,8 +12,7 @@ use lib.ListN.{length, get_or, length-map}
 use lib.Ieee.{nan, binary64, of_bits, of_int}
 use Rattle.ieee.specs.Patterns.{floats}
 use Rattle.regression.specs.Regression.{are_const, no_sums, sums_from, line_of, regression_of}
-use Rattle.regression.proofs.linear_regression.Statement.{statement}
-use Rattle.regression.proofs.linear_regression.Tie as tie
+use Rattle.regression.proofs.linear_regression.Goals as goal
 
 none : (vs : List ℕ) (ts : List ℤ) (t : ℤ) → length vs ≡ 0 → regression_of (floats vs) ts t ≡ record { v = nan; k = nan }
 unfolding floats regression_of
@@ -31,23 +29,14 @@ unfolding floats regression_of
 sloped [] ts t some e = absurd (some refl)
 sloped (b ∷ bs) ts t some e = rw (e, length-map bs (of_bits binary64))
 
-returns : tie.Need-returns
+pub returns-then-n-eq0 : goal.returns-then-n-eq0
+returns-then-n-eq0 c = rw (c.nan.ensures, c.nan-then-n-eq0.ensures) (sym (none c.args.values.now c.args.timestamps.now c.args.intercept_time c.if-n-eq0.true))
+
+pub returns-then-are_const_values : goal.returns-then-are_const_values
+returns-then-are_const_values c =
+    rw c.value_of.ensures (sym (const c.args.values.now c.args.timestamps.now c.args.intercept_time c.if-n-eq0.false (sym c.are_const_values.ensures ∙ c.if-are_const_values.true)))
+
+pub returns : goal.returns
 returns c =
-    let s = c.before.before.before.before in
-    rw (c.before.nan.ensures, c.nan2.ensures) (sym (none s.args.values.now s.args.timestamps.now s.args.intercept-time c.before.before.if1.true))
-
-returns-2 : tie.Need-returns-2
-returns-2 c =
-    let tested = c.before.before.before in
-    let s = tested.before.before.before in
-    rw c.value_of_lem.ensures (sym (const s.args.values.now s.args.timestamps.now s.args.intercept-time tested.before.if1.false (sym tested.are-const-values.ensures ∙ c.before.before.if2.true)))
-
-returns-3 : tie.Need-returns-3
-returns-3 c =
-    let tested = c.before.before.before.before in
-    let s = tested.before.before.before in
     c.fit.ensures
-    ∙ rw (c.before.before.sum-up.ensures, c.before.of-count.ensures, to_z-of_z w64 s.args.intercept-time s.ranges.intercept-time) (sym (sloped s.args.values.now s.args.timestamps.now s.args.intercept-time tested.before.if1.false (sym tested.are-const-values.ensures ∙ c.before.before.before.if2.false)))
-
-pub linear-regression-spec : {M : Type 1} → statement M
-linear-regression-spec = tie.close (tie.spec (λ c κs. search rules) (λ c κs. search rules) returns (λ c κs. search rules) (λ c. search rules) (λ c κs. search rules) returns-2 (λ c κs. search rules) (λ c κs. search rules) (λ c κs. search rules) returns-3)
+    ∙ rw (c.sum_up.ensures, c.of_count.ensures, to_z-of_z w64 c.args.intercept_time c.ranges.intercept_time) (sym (sloped c.args.values.now c.args.timestamps.now c.args.intercept_time c.if-n-eq0.false (sym c.are_const_values.ensures ∙ c.if-are_const_values.false)))
