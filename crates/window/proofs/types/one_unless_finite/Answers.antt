@@ -3,21 +3,16 @@
 use mathlib.Core.Path.{◌∙◌}
 use Prim.Native.Nat.{◌%◌, ◌^◌}
 use native.Mathlib.Omega.{arith}
-use borrow.Author.Rules.{rules}
 use borrow.Author.Tests.{ltb-true, ltb-false}
 use lib.Ieee.{binary64, of_bits}
 use lib.Ieee.Scale.{finite}
 use Rattle.ieee.proofs.Patterns.{finite-below}
 use Rattle.ieee.proofs.Tests.{by-test}
-use Rattle.window.proofs.types.one_unless_finite.Statement.{statement}
-use Rattle.window.proofs.types.one_unless_finite.Tie as tie
+use Rattle.window.proofs.types.one_unless_finite.Goals as goal
 
-returns : tie.Need-returns
+pub returns : goal.returns
 returns c =
     let b = c.args.b in
     by-test (finite (of_bits binary64 b))
     (λ e. rw e (omega (arith, ltb-true (b % 2 ^ 63) 0x7FF0_0000_0000_0000 (finite-below b ∙ e))))
     (λ e. rw e (omega (arith, ltb-false (b % 2 ^ 63) 0x7FF0_0000_0000_0000 (finite-below b ∙ e))))
-
-pub one-unless-finite-spec : {M : Type 1} → statement M
-one-unless-finite-spec = tie.close (tie.spec (λ c. search rules) returns)
