@@ -44,7 +44,7 @@ outputs-length next s (v ∷ vs) = ap suc (outputs-length next (next s v) vs)
 deltas-length : (d p : Float) (vs : List Float) → length (deltas_from d p vs) ≡ suc (length vs)
 unfolding deltas_from
 deltas-length d p [] = refl
-deltas-length d p (v ∷ vs) = ap suc (deltas-length _ v vs)
+deltas-length d p (v ∷ vs) = ap suc (deltas-length (sub binary64 v p) v vs)
 
 derivs-length : (s : Slope) (ts : List ℤ) (vs : List Float) → length ts ≡ length vs → length (derivs_from s ts vs) ≡ suc (length vs)
 unfolding derivs_from

@@ -16,7 +16,7 @@ ghost use Rattle.steps.specs.Steps.{begun, corrected, counter_after, counter_aft
 pub use choice::{Step, step_of};
 
 // What is done to a series' values before they are rolled up.
-#[derive(Drop)]
+#[derive(Clone, Copy)]
 pub enum PreFunction {
     None,
     Resets,
@@ -27,7 +27,7 @@ pub enum PreFunction {
 }
 
 // What a counter step keeps from one value to the next: the correction, the raw value before and its output.
-#[derive(Drop)]
+#[derive(Clone, Copy)]
 pub struct Counter {
     pub correction: f64,
     pub value: f64,
@@ -35,7 +35,7 @@ pub struct Counter {
 }
 
 // The last slope, and the reading that the next one is taken from.
-#[derive(Drop)]
+#[derive(Clone, Copy)]
 pub struct Slope {
     pub deriv: f64,
     pub value: f64,
