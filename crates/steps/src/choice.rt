@@ -6,7 +6,7 @@ ghost use Rattle.steps.specs.Choice.{step_of};
 use crate::PreFunction;
 
 // A step, or none where the number names none.
-#[derive(Drop)]
+#[derive(Clone, Copy)]
 pub enum Step {
     Known(PreFunction),
     Unknown,
