@@ -2,7 +2,7 @@
 -- Assumes nothing.
 use Prim.Native.Nat.{ℕ, zero, suc, ◌≤◌}
 use native.Mathlib.Omega.{arith}
-use mathlib.Core.Path.{◌≡◌, refl, subst}
+use mathlib.Core.Path.{◌≡◌, refl, sym, subst, ◌∙◌}
 use mathlib.Core.Bool.{Bool, true, false, ◌||◌, false≢true}
 use mathlib.Core.List.{List, [], ◌∷◌}
 use borrow.Author.Tests.{leb-true}
@@ -78,6 +78,10 @@ up_to_fits h = within-fits tt (record { size = h.small })
 
 pub castable : {x : ℤ} → UpTo time_limit x → T (non_neg (to_z w64 (of_z w64 x))) × Fits w64 (nat_abs (to_z w64 (of_z w64 x)))
 castable {x} h = rw (to_z-of_z (up_to_fits h)) (subst (λ (z : ℤ). T (non_neg z)) h.whole tt, record { fits = omega (arith, h.small) })
+
+-- what `is_outside` told of the bits of an `i64` is told of the number
+pub told : (lo hi x : ℤ) {r b : Bool} → SFits w64 x → r ≡ outside lo hi (to_z w64 (of_z w64 x)) → r ≡ b → outside lo hi x ≡ b
+told lo hi x f e t = sym (rw (to_z-of_z f) at e) ∙ t
 
 -- ---- settings
 

@@ -7,7 +7,7 @@ ghost use Rattle.settings.specs.Course.{settled_course};
 use crate::SettledConfig;
 use series::Checked;
 
-#[derive(Drop)]
+#[derive(Clone, Copy)]
 pub struct Course {
     pub start: i64,
     pub step: i64,

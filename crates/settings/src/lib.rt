@@ -11,7 +11,7 @@ use series::{Checked, Refusal};
 use times::TIME_LIMIT;
 
 // Times and lengths of time are milliseconds. A window of 0 stands for the step.
-#[derive(Drop)]
+#[derive(Clone, Copy)]
 pub struct RollupConfig {
     pub start: i64,
     pub end: i64,
@@ -26,7 +26,7 @@ pub struct RollupConfig {
 }
 
 // The settings of a settled run, which is given its window and its reach.
-#[derive(Drop)]
+#[derive(Clone, Copy)]
 pub struct SettledConfig {
     pub start: i64,
     pub end: i64,
