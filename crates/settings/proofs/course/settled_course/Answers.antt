@@ -1,12 +1,16 @@
 -- `course::settled_course` meets its contract: each field is the setting's, and the grid's size that of the settings.
 -- Assumes nothing.
-use Rattle.times.proofs.Milli.{read_back}
+use borrow.Author.Rules.{rules}
+use mir.Syntax.{w64}
+use mir.Val.{SFits}
+use mir.Facts.{to_z-of_z}
 use Rattle.settings.proofs.Passed.{settled-spans}
 use Rattle.settings.proofs.course.settled_course.Goals as goal
 
 pub points-requires : goal.points-requires
 points-requires c =
-    let t = c in
-    let sc = t.args.sc in
-    let g = t.struct_told-1.given in
-    rw (read_back sc.start g.0.1, read_back sc.end g.1.0.1, read_back sc.step g.1.1.0.1) (settled-spans sc t.requires)
+    let sc = c.args.sc in
+    let start : SFits w64 sc.start = search rules in
+    let end : SFits w64 sc.end = search rules in
+    let step : SFits w64 sc.step = search rules in
+    rw (to_z-of_z start, to_z-of_z end, to_z-of_z step) (settled-spans sc c.requires)
