@@ -46,7 +46,7 @@ module _ (k : ℕ) (small : k ≤ 2 ^ 53) where
   part-within (fin false n d) (fin false m e) g p v l =
       let cross : m * up e * down d ≤ n * up d * down e =
       ⊎_elim (λ t. le_of_lt (ltb→lt (m * up e * down d) (n * up d * down e) t)) (λ t. le_of_eq (eqb→eq (m * up e * down d) (n * up d * down e) (and_l (eqb (m * up e * down d) (n * up d * down e)) _ t))) (either (ltb (m * up e * down d) (n * up d * down e)) _ l) in
-      let same : n * up d * down e ≡ k * down e * down d = ap (λ (z : ℕ). z * down e) (sym (mul-one (n * up d)) ∙ p.1) ∙ simp (mul_assoc, mul_comm, mul_left_comm) in
+      let same : n * up d * down e ≡ k * down e * down d = ap (λ (z : ℕ). z * down e) (sym (mul-one (n * up d)) ∙ p.1) ∙ simp (mul_assoc, mul_comm) in
       floor-within m e (le_of_mul-le-mul_right (rw same at cross) (down_pos d))
 
   -- phi at most 1
