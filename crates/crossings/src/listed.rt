@@ -10,7 +10,7 @@ ghost use Rattle.crossings.specs.Crossings.{below, crosses, crossing_indexes, cr
 use series::{Checked, Refusal};
 
 // How many crossings a series has, or why the call is refused.
-#[derive(Drop)]
+#[derive(Clone, Copy)]
 pub enum Listed {
     Count(u64),
     Refused(Refusal),

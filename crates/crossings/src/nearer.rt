@@ -12,7 +12,7 @@ use series::{Checked, Refusal};
 use times::search::seek_first_timestamp_idx_after;
 
 // The index of the nearest reading, nothing where there is no reading, or why the call is refused.
-#[derive(Drop)]
+#[derive(Clone, Copy)]
 pub enum Found {
     At(usize),
     Nothing,

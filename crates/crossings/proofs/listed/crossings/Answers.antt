@@ -1,0 +1,39 @@
+-- `crossings::listed::crossings` meets its contract. A refusal is the first row that refuses, and nothing is written; else the indexes are
+-- written to the leading part, and the rest is as it was.
+-- Assumes nothing.
+use Prim.Native.Nat.{ℕ}
+use mathlib.Core.List.{List, ◌++◌}
+use mathlib.Core.Path.{sym, ap, ◌∙◌}
+use borrow.Author.Tests.{lt-ltb, le-ltb}
+use lib.ListN.{drop}
+use lib.Seq.{length-take-le}
+use Rattle.series.proofs.Accepted.{accepted-series}
+use Rattle.series.specs.Answers.{gives, outcome}
+use Rattle.crossings.specs.Crossings.{crossings_checked}
+use Rattle.crossings.proofs.listed.crossings.Goals as goal
+
+pub returns-in-Refused : goal.returns-in-Refused
+unfolding crossings_checked
+returns-in-Refused c = rw (← c.check_series-checked.ensures, c.in-Refused.is)
+
+pub returns-then-not-is_number : goal.returns-then-not-is_number
+unfolding crossings_checked
+returns-then-not-is_number c = rw (← c.is_number.ensures, c.if-not-is_number.true, ← c.check_series-checked.ensures, c.in_default.is)
+
+pub count-n-requires : goal.count-n-requires
+count-n-requires c = (accepted-series _ _ (sym c.check_series-checked.ensures ∙ c.in_default.is)).all_finite
+
+pub returns-then-indexes-n : goal.returns-then-indexes-n
+unfolding crossings_checked
+returns-then-indexes-n c =
+    rw (← c.count-n.ensures, lt-ltb _ _ c.if-indexes-n.true, ← c.is_number.ensures, c.if-not-is_number.false, ← c.check_series-checked.ensures, c.in_default.is)
+
+pub list-requires : goal.list-requires
+list-requires c =
+    ((accepted-series _ _ (sym c.check_series-checked.ensures ∙ c.in_default.is)).all_finite, length-take-le _ _ c.if-indexes-n.false ∙ c.count-n.ensures)
+
+pub returns : goal.returns
+unfolding crossings_checked
+returns c =
+    rw (← c.count-n.ensures, le-ltb _ _ c.if-indexes-n.false, ← c.is_number.ensures, c.if-not-is_number.false, ← c.check_series-checked.ensures, c.in_default.is)
+    (ap (λ (new : List ℕ). outcome (gives c.count-n.result) (new ++ drop c.count-n.result c.args.indexes.now)) c.list.ensures)

@@ -1,0 +1,21 @@
+-- `crossings::listed::is_below` meets its contract: each value of an accepted series is finite, and so no NaN.
+-- Assumes nothing.
+use mathlib.Core.Path.{◌≡◌}
+use mathlib.Core.Bool.{true}
+use Prim.Native.Nat.{ℕ, ◌<◌}
+use mathlib.Core.List.{List}
+use lib.ListN.{length, get_or}
+use Rattle.times.specs.Leading.{leading}
+use lib.Ieee.{binary64, of_bits}
+use lib.Ieee.Scale.{finite}
+use Rattle.times.proofs.Leading.{all-good}
+use Rattle.series.specs.Rows.{finite_bits}
+use Rattle.ieee.proofs.Numbers.{finite_number}
+use Rattle.crossings.proofs.listed.is_below.Goals as goal
+
+read-finite : (vs : List ℕ) (i : ℕ) → leading finite_bits vs ≡ length vs → i < length vs → finite (of_bits binary64 (get_or vs i 0)) ≡ true
+unfolding finite_bits
+read-finite vs i h l = all-good finite_bits vs 0 h i l
+
+pub number_of-requires : goal.number_of-requires
+number_of-requires c = finite_number _ (read-finite c.args.values.now c.args.i c.requires.0 c.requires.1)
