@@ -2,8 +2,8 @@
 // operands and the Rust's answer.
 #![tactic(auto)]
 
-use libc::STDIN_FILENO;
 use replay::{Case, Tally};
+use std::io;
 use vectors::STEP;
 
 // Whether an operation gives the stored answer.
@@ -46,9 +46,10 @@ fn replay(text: &[u8]) -> Tally {
     tally
 }
 
-fn main() {
+fn main(rt: HostRuntime) -> io::Result<()> {
     let mut space = replay::space();
-    let n = io::read_full(STDIN_FILENO, &mut space);
+    let n = replay::read(&rt, &mut space)?;
     let text = &space[..n];
-    replay::report(text, replay(text));
+    replay::report(&rt, text, replay(text))?;
+    Ok(())
 }
