@@ -10,7 +10,7 @@ use super::{estimate, reach};
 use series::{Checked, Refusal};
 use settings::RollupConfig;
 
-#[derive(Drop)]
+#[derive(Clone, Copy)]
 pub enum Settled {
     Accepted {
         window: i64,
