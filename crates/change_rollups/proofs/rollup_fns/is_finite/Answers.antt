@@ -4,8 +4,7 @@ use mathlib.Core.Path.{◌≡◌, refl}
 use mathlib.Core.Bool.{true, false, false≢true}
 use lib.Ieee.{Float, nan, inf, fin, binary64, sub, add, neg, eq}
 use lib.Ieee.Scale.{finite}
-use Rattle.change_rollups.proofs.rollup_fns.is_finite.Statement.{statement}
-use Rattle.change_rollups.proofs.rollup_fns.is_finite.Tie as tie
+use Rattle.change_rollups.proofs.rollup_fns.is_finite.Goals as goal
 
 by_itself : (x z : Float) → eq (sub binary64 x x) z ≡ true → finite x ≡ true
 unfolding sub add neg eq
@@ -14,8 +13,5 @@ by_itself (inf true) z h = absurd (false≢true h)
 by_itself (inf false) z h = absurd (false≢true h)
 by_itself (fin s m e) z h = refl
 
-returns : tie.Need-returns
+pub returns : goal.returns
 returns c = λ h. by_itself _ _ h
-
-pub is-finite-spec : {M : Type 1} → statement M
-is-finite-spec = tie.close (tie.spec returns)
