@@ -10,7 +10,7 @@ ghost use Rattle.ieee.specs.Value.{seconds_of};
 ghost use Rattle.window.specs.Types.{AllFinite};
 ghost use Rattle.window.specs.Window.{first_of, first_or, last_of, last_or, up_to_last};
 
-#[derive(Drop)]
+#[derive(Clone, Copy)]
 pub struct RollupFuncArg {
     // The value of the last reading at or before the window's start, if that reading is later than the start
     // less the reach and some reading is later than the start; else NaN.
