@@ -2,8 +2,8 @@
 // Rust's window, reach and number of output times.
 #![tactic(auto)]
 
-use libc::STDIN_FILENO;
 use replay::{Case, Tally};
+use std::io;
 use vectors::STEP;
 
 // The case that a text begins with.
@@ -33,9 +33,10 @@ fn replay(text: &[u8]) -> Tally {
     tally
 }
 
-fn main() {
+fn main(rt: HostRuntime) -> io::Result<()> {
     let mut space = replay::space();
-    let n = io::read_full(STDIN_FILENO, &mut space);
+    let n = replay::read(&rt, &mut space)?;
     let text = &space[..n];
-    replay::report(text, replay(text));
+    replay::report(&rt, text, replay(text))?;
+    Ok(())
 }
