@@ -27,7 +27,7 @@ use value_rollups::rollup_fns::{
 use window::types::RollupFuncArg;
 
 // The rollups, in the order of their numbers (docs/ROLLUPS.md).
-#[derive(Drop)]
+#[derive(Clone, Copy)]
 pub enum RollupHandler {
     Avg,
     Min,
