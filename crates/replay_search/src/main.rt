@@ -5,11 +5,11 @@
 ghost use Rattle.std.specs.Prelude.{ℕ, ◌≤◌, ◌<◌};
 ghost use Rattle.times.specs.Grid.{OnGrid};
 
-use libc::STDIN_FILENO;
 use replay::{Case, Tally};
 use rollup::choice::Chosen;
 use series::Checked;
 use settings::RollupConfig;
+use std::io;
 use vectors::STEP;
 
 // How many times of a grid the list holds; of more it holds the first and the last.
@@ -194,9 +194,10 @@ fn replay(text: &[u8]) -> Tally {
     tally
 }
 
-fn main() {
+fn main(rt: HostRuntime) -> io::Result<()> {
     let mut space = replay::space();
-    let n = io::read_full(STDIN_FILENO, &mut space);
+    let n = replay::read(&rt, &mut space)?;
     let text = &space[..n];
-    replay::report(text, replay(text));
+    replay::report(&rt, text, replay(text))?;
+    Ok(())
 }
