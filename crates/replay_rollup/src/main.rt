@@ -8,10 +8,10 @@ ghost use Rattle.std.specs.Prelude.{◌≡◌, ◌≤◌, ◌<◌, leb, nat_abs,
 ghost use Rattle.window.specs.Types.{record_limit};
 ghost use Rattle.rollup.specs.Eval.{Ready};
 
-use libc::STDIN_FILENO;
 use replay::{Case, Tally};
 use rollup::choice::Chosen;
 use series::Checked;
+use std::io;
 use vectors::STEP;
 use window::types::RollupFuncArg;
 
@@ -138,9 +138,10 @@ fn replay(text: &[u8]) -> Tally {
     tally
 }
 
-fn main() {
+fn main(rt: HostRuntime) -> io::Result<()> {
     let mut space = replay::space();
-    let n = io::read_full(STDIN_FILENO, &mut space);
+    let n = replay::read(&rt, &mut space)?;
     let text = &space[..n];
-    replay::report(text, replay(text));
+    replay::report(&rt, text, replay(text))?;
+    Ok(())
 }
