@@ -1,0 +1,34 @@
+-- `run::settled_run` meets its contract: the rows come in the table's order, a refusal touches no slice, and what no row refuses is executed.
+-- Assumes nothing.
+use Rattle.std.proofs.Common.{◌≡◌, length, sym, ◌∙◌}
+use Rattle.settings.specs.Course.{settled_course}
+use Rattle.settings.specs.Rows.{settled_settings}
+use Rattle.settings.proofs.Passed.{last_row}
+use Rattle.series.specs.Rows.{series_checked}
+use Rattle.series.specs.declared.refusal.Checked.TheVariants.{Accepted}
+use Rattle.run.specs.Run.{lent, lent_checked, settled_checked}
+use Rattle.run.proofs.Passed.{goes_by, settled-sound}
+use Rattle.run.proofs.settled_run.Goals as goal
+
+pub returns-in-Refused : goal.returns-in-Refused
+unfolding settled_checked
+returns-in-Refused c = rw (← c.check_series-checked.ensures, c.in-Refused.is)
+
+pub returns-in-Refused-settings : goal.returns-in-Refused-settings
+unfolding settled_checked
+returns-in-Refused-settings c =
+    let series-ok : series_checked c.args.timestamps.now c.args.values.now ≡ Accepted = sym c.check_series-checked.ensures ∙ c.in_default.is in
+    rw (series-ok, ← c.check_settled-settings.ensures, c.in-Refused-settings.is)
+
+pub execute_within-requires-clause-allowed : goal.execute_within-requires-clause-allowed
+execute_within-requires-clause-allowed c =
+    rw c.settled_course.ensures (goes_by (settled-sound c.args.sc (sym c.check_settled-settings.ensures ∙ c.in_default-settings.is)))
+
+pub returns : goal.returns
+unfolding settled_checked
+returns c =
+    let series-ok : series_checked c.args.timestamps.now c.args.values.now ≡ Accepted = sym c.check_series-checked.ensures ∙ c.in_default.is in
+    let settings-ok : settled_settings c.args.sc ≡ Accepted = sym c.check_settled-settings.ensures ∙ c.in_default-settings.is in
+    let l = lent c.args.dst_values.now c.args.prepared.now c.args.work.now in
+    rw (series-ok, settings-ok, last_row (lent_checked (length c.args.values.now) (settled_course c.args.sc).points l))
+    (rw c.settled_course.ensures at c.execute_within.ensures)
