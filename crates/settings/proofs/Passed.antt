@@ -23,7 +23,7 @@ use Rattle.series.specs.declared.refusal.Checked.TheVariants.{Accepted, Refused}
 use Rattle.series.proofs.Accepted.{all-accept, fails}
 use Rattle.settings.specs.declared.RollupConfig.{RollupConfig}
 use Rattle.settings.specs.declared.SettledConfig.{SettledConfig}
-use Rattle.settings.specs.Rows.{outside, span_outside, setting_outside, per_call_over, row6, row7, row8, row9, row10, row11, settled_row8, settled_row9, span_checked, ranges_checked, settings_checked, settled_settings}
+use Rattle.settings.specs.Rows.{outside, span_outside, setting_outside, per_call_over, row6, row7, row8, row9, row10, row11, span_checked, ranges_checked, settings_checked, settled_settings}
 
 -- x is a number of ℕ, at most k
 pub record UpTo (k : ℕ) (x : ℤ) : Type 0 where
@@ -50,6 +50,10 @@ pub two-rows : (a b : Checked) (rows : List Checked) → first_refusal (a ∷ b 
 two-rows Accepted Accepted rows = refl
 two-rows Accepted (Refused r) rows = refl
 two-rows (Refused r) b rows = refl
+
+-- a call's first two rows accept where all do
+first-two : (a b : Checked) (rows : List Checked) → first_refusal (a ∷ b ∷ rows) ≡ Accepted → (a ≡ Accepted) × (b ≡ Accepted)
+first-two a b rows e = let each = all-accept (a ∷ b ∷ rows) e in (each.0, each.1.0)
 
 pub or-false : (a b : Bool) → (a || b) ≡ false → (a ≡ false) × (b ≡ false)
 or-false true b e = absurd (let z : ◌≡◌ {A = ℕ} 0 1 = cc in omega arith)
@@ -133,5 +137,5 @@ module _ (rc : RollupConfig) where
 pub settled-spans : (sc : SettledConfig) → settled_settings sc ≡ Accepted → Spans sc.start sc.end sc.step
 unfolding settled_settings
 settled-spans sc e =
-    let rows = all-accept (row6 sc.step ∷ row7 sc.start sc.end ∷ settled_row8 sc.window sc.reach ∷ settled_row9 sc.samples_scanned_per_call ∷ row11 sc.start sc.end sc.step ∷ []) e in
-    spans sc.start sc.end sc.step (fails _ StepOutside rows.0) (fails _ SpanOutside rows.1.0)
+    let rows = first-two (row6 sc.step) (row7 sc.start sc.end) _ e in
+    spans sc.start sc.end sc.step (fails _ StepOutside rows.0) (fails _ SpanOutside rows.1)

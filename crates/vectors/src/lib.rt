@@ -11,13 +11,16 @@ ghost use Rattle.vectors.specs.Words.{Front, agrees, body_of, digit_of, hex_of, 
 // The bytes of a word and of what follows it.
 pub const STEP: usize = 17;
 
+// What ends a line.
+const LINE_END: u8 = b'\n';
+
 // Where the words begin: after the first line's end, or at the text's end where it has none.
 pub fn body(text: &[u8]) -> usize
     ensures { result ≡ body_of text.now }
 {
     let mut i = 0;
     while i < text.len() {
-        if text[i] == b'\n' {
+        if text[i] == LINE_END {
             return i + 1;
         }
         i += 1;

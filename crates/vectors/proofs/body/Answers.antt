@@ -19,11 +19,11 @@ from : (s : List ℕ) (i : ℕ) → i < length s → body_of (drop i s) ≡ cond
 unfolding body_of
 from s i h = rw (drop-cons s i 0 h)
 
-pub returns-then-text-i-eq10 : goal.returns-then-text-i-eq10
-returns-then-text-i-eq10 c =
+pub returns-then-text-i-eq-LINE_END : goal.returns-then-text-i-eq-LINE_END
+returns-then-text-i-eq-LINE_END c =
     let s = c.args.text.now in
     let i = c.loop-i.i in
-    let one : body_of (drop i s) ≡ 1 = rw (from s i c.loop-i-test.true, eq-eqb _ _ c.if-text-i-eq10.true) in
+    let one : body_of (drop i s) ≡ 1 = rw (from s i c.loop-i-test.true, eq-eqb _ _ c.if-text-i-eq-LINE_END.true) in
     omega (arith, c.loop-i.invariant.1)
 
 pub loop-i-preserved : goal.loop-i-preserved
@@ -31,7 +31,7 @@ loop-i-preserved c =
     let s = c.args.text.now in
     let i = c.loop-i.i in
     let more : body_of (drop i s) ≡ suc (body_of (drop (i + 1) s)) =
-    rw (add-one i, from s i c.loop-i-test.true, ne_eqb _ _ c.if-text-i-eq10.false) in
+    rw (add-one i, from s i c.loop-i-test.true, ne_eqb _ _ c.if-text-i-eq-LINE_END.false) in
     (search rules, omega (arith, c.loop-i.invariant.1))
 
 pub returns : goal.returns
