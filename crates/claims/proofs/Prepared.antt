@@ -7,7 +7,7 @@ use Prim.Native.Nat.{ℕ, ◌*◌, ◌<◌}
 use lib.Dec.{T}
 use lib.IntN.{ℤ}
 use lib.Signed.{lt_z}
-use lib.Ieee.{Float, nan, binary64, fits, is_nan, of_bits, top}
+use lib.Ieee.{Float, nan, binary64, fits, is_nan, of_bits, sub, top}
 use lib.Ieee.Bits.{of_bits-fits, to_bits-lt}
 use lib.Ieee.Fits.{add-fits, div-fits, inf-fits, sub-fits}
 use Rattle.ieee.specs.Patterns.{floats, patterns}
@@ -41,7 +41,7 @@ outputs-fit compared s f (v ∷ vs) =
 deltas-fit : (d p : Float) → Fits d → (vs : List Float) → All Fits (deltas_from d p vs)
 unfolding deltas_from
 deltas-fit d p f [] = (f, tt)
-deltas-fit d p f (v ∷ vs) = (sub-fits binary64 v p, deltas-fit _ v (sub-fits binary64 v p) vs)
+deltas-fit d p f (v ∷ vs) = (sub-fits binary64 v p, deltas-fit (sub binary64 v p) v (sub-fits binary64 v p) vs)
 
 sloped-fits : (s : Slope) (v : Float) (u : ℤ) → Fits s.deriv → Fits (sloped s v u).deriv
 unfolding sloped

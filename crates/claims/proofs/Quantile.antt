@@ -146,7 +146,9 @@ none-below-first q y (x ∷ xs) k a same = (same x k.0 ∙ a.0, none-below-first
 
 first-least : (next : Float) (ys : List Float) (i : ℕ) → i ≡ 0 → All (Keyed Partial) ys → InOrder Partial ys → All (λ x. lt x (before next (get_or ys i nan)) ≡ false) ys
 first-least next [] i e k o = tt
-first-least next (y ∷ ys) i e k o = rw e (none-below-first (before next y) y (y ∷ ys) k (not-below-itself y k.0, o.0) (λ x l. same-below x y next l k.0))
+first-least next (y ∷ ys) i e k o =
+    subst (λ (j : ℕ). All (λ x. lt x (before next (get_or (y ∷ ys) j nan)) ≡ false) (y ∷ ys)) (sym e)
+    (none-below-first (before next y) y (y ∷ ys) k (not-below-itself y k.0, o.0) (λ x l. same-below x y next l k.0))
 
 last-greatest : (ys : List Float) (i : ℕ) → length ys ≡ suc i → All (Keyed Partial) ys → InOrder Partial ys → All (λ x. lt (get_or ys i nan) x ≡ false) ys
 last-greatest [] i e k o = tt
