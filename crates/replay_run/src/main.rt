@@ -7,12 +7,12 @@
 
 ghost use Rattle.std.specs.Prelude.{◌≤◌, ◌<◌, length};
 
-use libc::STDIN_FILENO;
 use replay::{Case, Tally};
 use rollup::choice::Chosen;
 use rollup::handler::RollupHandler;
 use run::Figures;
 use settings::{RollupConfig, SettledConfig};
+use std::io;
 use steps::{PreFunction, Step};
 use vectors::STEP;
 
@@ -245,9 +245,10 @@ fn replay(text: &[u8]) -> Tally {
     tally
 }
 
-fn main() {
+fn main(rt: HostRuntime) -> io::Result<()> {
     let mut space = replay::space();
-    let n = io::read_full(STDIN_FILENO, &mut space);
+    let n = replay::read(&rt, &mut space)?;
     let text = &space[..n];
-    replay::report(text, replay(text));
+    replay::report(&rt, text, replay(text))?;
+    Ok(())
 }
