@@ -15,13 +15,14 @@ use common::Folder;
 fn run(rt: u8, build: u8) -> (Option<i32>, String, String) {
     let folder = Folder::new("run");
     let path = |name: &str| folder.path().join(name);
-    for name in ["host", "bin", "crates"] {
-        fs::create_dir(path(name)).unwrap();
+    for name in ["host", "bin", "tools", "crates/harzoulin_c/out"] {
+        fs::create_dir_all(path(name)).unwrap();
     }
-    let scripts = Path::new(env!("CARGO_MANIFEST_DIR")).join("..");
-    for name in ["run", "build"] {
-        fs::copy(scripts.join(name), path("host").join(name)).unwrap();
+    let root = Path::new(env!("CARGO_MANIFEST_DIR")).join("../..");
+    for name in ["host/run", "host/build", "tools/archive"] {
+        fs::copy(root.join(name), path(name)).unwrap();
     }
+    folder.write("crates/harzoulin_c/out/libharzoulin_c.a", "");
     folder.write("bin/rt", &format!("#!/bin/sh\necho proving\nexit {rt}\n"));
     let cargo = format!(
         "#!/bin/sh\nif [ $1 = build ]; then echo compiling >&2; exit {build}; fi\n\

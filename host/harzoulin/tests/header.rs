@@ -8,7 +8,7 @@ use harzoulin::{ROLLUPS, Refusal, Step};
 
 const HEADER: &str = include_str!("../../../include/harzoulin.h");
 const EXPORTED: &str = include_str!("../src/exported.rs");
-const PROVED: &str = concat!(env!("CARGO_MANIFEST_DIR"), "/../../crates/harzoulin/src");
+const PROVED: &str = concat!(env!("CARGO_MANIFEST_DIR"), "/../../crates/harzoulin_c/src");
 const PAPER: &str = include_str!("../../../docs/ROLLUPS.md");
 
 /// The header's constants of an enum, without what all of them begin with.
