@@ -2,6 +2,7 @@
 -- Assumes nothing.
 use mathlib.Core.Path.{◌≡◌, sym, ◌∙◌}
 use mathlib.Core.List.{List}
+use borrow.Author.Rules.{rules}
 use Prim.Native.Nat.{ℕ}
 use lib.IntN.{ℤ}
 use lib.ListN.{length}
@@ -44,7 +45,7 @@ returns-in-None c =
 
 pub returns-in-Resets : goal.returns-in-Resets
 unfolding prepared_of
-returns-in-Resets c = rw c.in-Resets.is c.remove_counter_resets.ensures
+returns-in-Resets c = rw c.in-Resets.is (search rules)
 
 pub returns-in-Delta : goal.returns-in-Delta
 unfolding prepared_of
@@ -60,4 +61,4 @@ returns-in-Intervals c = rw c.in-Intervals.is c.calc_sample_intervals_pre_fn.ens
 
 pub returns-in-ResetsOnce : goal.returns-in-ResetsOnce
 unfolding prepared_of
-returns-in-ResetsOnce c = rw c.in-ResetsOnce.is c.remove_counter_resets_once.ensures
+returns-in-ResetsOnce c = rw c.in-ResetsOnce.is (search rules)
