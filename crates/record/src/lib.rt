@@ -93,9 +93,9 @@ pub fn record_at(
     t_end: i64,
     course: Course,
 ) -> RollupFuncArg
-    requires fact_1 { (length timestamps.now ≡ length values.now) × NotFalling timestamps.now }
-    requires fact_2 { Found timestamps.now course.window t_end i j }
-    requires fact_3 { Timed t_end course }
+    requires ordered { (length timestamps.now ≡ length values.now) × NotFalling timestamps.now }
+    requires found { Found timestamps.now course.window t_end i j }
+    requires timed { Timed t_end course }
     ensures { result ≡ (record_at (readings timestamps.now values.now) course.window course.reach t_end).arg }
 {
     let window = course.window;

@@ -42,8 +42,8 @@ fn listed(text: &[u8], k: usize) -> i64
 
 // Whether the first n times of a grid are those of the list.
 fn same_times(text: &[u8], start: i64, step: i64, n: u64) -> bool
-    requires fact_1 { n ≤ 64 }
-    requires fact_2 { ((k : ℕ) → k < n → OnGrid start step k) }
+    requires few { n ≤ 64 }
+    requires on_grid { ((k : ℕ) → k < n → OnGrid start step k) }
 {
     let mut k: u64 = 0;
     while k < n {
@@ -57,8 +57,8 @@ fn same_times(text: &[u8], start: i64, step: i64, n: u64) -> bool
 
 // Whether the first and the last of a grid's n times are those of the list.
 fn same_ends(text: &[u8], start: i64, step: i64, n: u64) -> bool
-    requires fact_1 { 0 < n }
-    requires fact_2 { ((k : ℕ) → k < n → OnGrid start step k) }
+    requires any { 0 < n }
+    requires on_grid { ((k : ℕ) → k < n → OnGrid start step k) }
 {
     if times::grid::time_at(start, step, 0) != listed(text, 0) {
         return false;

@@ -16,7 +16,7 @@ pub returns : goal.returns
 returns c =
     let p = c.predecessor_time-prev_timestamp in
     let n = c.next_at-next in
-    let t = c.requires.fact_3 in
+    let t = c.requires.timed in
     let l = t.lengths in
     let us = c.args.timestamps.now in
     let vs = c.args.values.now in
@@ -25,7 +25,7 @@ returns c =
     let p-fits : SFits w64 p.result = search rules in
     let n-fits : SFits w64 n.result.time = search rules in
     cc (
-      record_is us vs c.requires.fact_1.0 c.requires.fact_1.1 w r c.args.t_end c.args.i c.args.j c.requires.fact_2,
+      record_is us vs c.requires.ordered.0 c.requires.ordered.1 w r c.args.t_end c.args.i c.args.j c.requires.found,
       limit-back t.time l.window l.reach,
       to_z-of_z p-fits,
       to_z-of_z n-fits,

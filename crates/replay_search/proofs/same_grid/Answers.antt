@@ -24,8 +24,8 @@ module _ (rc : RollupConfig) (e : Accepted ≡ settings_checked rc) where
 pub points-n-requires : goal.points-n-requires
 points-n-requires c = spans c.args.rc c.in_default.ensures
 
-pub same_times-requires-clause-fact_2 : goal.same_times-requires-clause-fact_2
-same_times-requires-clause-fact_2 c = on c.args.rc c.in_default.ensures _ c.points-n.ensures
+pub same_times-requires-clause-on_grid : goal.same_times-requires-clause-on_grid
+same_times-requires-clause-on_grid c = on c.args.rc c.in_default.ensures _ c.points-n.ensures
 
-pub same_ends-requires-clause-fact_2 : goal.same_ends-requires-clause-fact_2
-same_ends-requires-clause-fact_2 c = on c.args.rc c.in_default.ensures _ c.points-n.ensures
+pub same_ends-requires-clause-on_grid : goal.same_ends-requires-clause-on_grid
+same_ends-requires-clause-on_grid c = on c.args.rc c.in_default.ensures _ c.points-n.ensures
