@@ -11,8 +11,8 @@ use Rattle.ieee.specs.Patterns.{floats, patterns}
 use Rattle.series.specs.Refusals.{first_refusal}
 use Rattle.series.specs.Rows.{series_checked}
 use Rattle.steps.specs.Steps.{prepared_of}
-use Rattle.series.specs.declared.refusal.Checked.{Checked}
-use Rattle.series.specs.declared.refusal.Checked.TheVariants.{Accepted}
+use Rattle.series.specs.Refusals.{Checked}
+use Rattle.std.specs.Prelude.{Ok}
 use Rattle.series.proofs.Accepted.{AllAccept, accepted-series, all-accept}
 use Rattle.steps.proofs.Prepared.{prepared-length}
 use Rattle.times.specs.Grid.{grid_size}
@@ -50,7 +50,7 @@ module _ (c : Call) where
       go (run rc) = refl
       go (settled sc) = refl
 
-  module _ (ok : checked c ≡ Accepted) where
+  module _ (ok : checked c ≡ Ok tt) where
     pub accepted-call : accepted c ≡ 1
     accepted-call = rw (returned-is, ok)
 

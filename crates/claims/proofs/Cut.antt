@@ -11,8 +11,8 @@ use lib.IntN.{ℤ}
 use lib.ListN.{length, length-map, take}
 use lib.Seq.{take_at}
 use Rattle.series.specs.Answers.{Outcome}
-use Rattle.series.specs.declared.refusal.Checked.{Checked}
-use Rattle.series.specs.declared.refusal.Checked.TheVariants.{Accepted, Refused}
+use Rattle.series.specs.Refusals.{Checked}
+use Rattle.std.specs.Prelude.{Ok, Err}
 use Rattle.outputs.specs.Figures.{figures, scans}
 use Rattle.outputs.proofs.Loop.{scans-append}
 use Rattle.run.specs.Run.{Lent, Plan, counted_of, planned, prepared_series}
@@ -42,29 +42,29 @@ abbrev times_in : Outcome ℕ Lent → Plan → List ℤ
 times_in o q = if_given o.answer.values q.outputs []
 
 module _ (p : Plan) where
-  answers-in : (k : Checked) (q : Plan) (l : Lent) → (k ≡ Accepted → Alike q p)
+  answers-in : (k : Checked) (q : Plan) (l : Lent) → (k ≡ Ok tt → Alike q p)
       → let o = planned k q l in take (length (times_in o q)) o.slices.dst ≡ figures_by p (times_in o q)
   unfolding figures
-  answers-in (Refused r) q l alike = refl
-  answers-in Accepted q l alike =
+  answers-in (Err r) q l alike = refl
+  answers-in (Ok tt) q l alike =
       let a = alike refl in
       take_at (figures_by q q.outputs) _ (length q.outputs) (figures-length q q.outputs) ∙ cc
 
-  count-in : (k : Checked) (q : Plan) (l : Lent) → (k ≡ Accepted → Alike q p)
+  count-in : (k : Checked) (q : Plan) (l : Lent) → (k ≡ Ok tt → Alike q p)
       → let o = planned k q l in get_or o.answer.values 0 ≡ if_given o.answer.values 1 0 * length (prepared_series p) + scans_by p (times_in o q)
   unfolding scans
-  count-in (Refused r) q l alike = omega arith
-  count-in Accepted q l alike =
+  count-in (Err r) q l alike = omega arith
+  count-in (Ok tt) q l alike =
       let a = alike refl in
       let e : counted_of q ≡ length (prepared_series p) + scans_by p q.outputs = cc in
       e ∙ omega arith
 
-  call-answers : (c : Call) → (checked c ≡ Accepted → Alike (plan c) p) → answers c ≡ figures_by p (output_times c)
+  call-answers : (c : Call) → (checked c ≡ Ok tt → Alike (plan c) p) → answers c ≡ figures_by p (output_times c)
   call-answers c alike =
       subst (λ (o : Outcome ℕ Lent). take (length (times_in o (plan c))) o.slices.dst ≡ figures_by p (times_in o (plan c))) (sym (returned-is c))
       (answers-in (checked c) (plan c) c.lent alike)
 
-  call-count : (c : Call) → (checked c ≡ Accepted → Alike (plan c) p) → counted c ≡ accepted c * length (prepared_series p) + scans_by p (output_times c)
+  call-count : (c : Call) → (checked c ≡ Ok tt → Alike (plan c) p) → counted c ≡ accepted c * length (prepared_series p) + scans_by p (output_times c)
   call-count c alike =
       subst (λ (o : Outcome ℕ Lent). get_or o.answer.values 0 ≡ if_given o.answer.values 1 0 * length (prepared_series p) + scans_by p (times_in o (plan c))) (sym (returned-is c))
       (count-in (checked c) (plan c) c.lent alike)
@@ -107,10 +107,10 @@ alike-itself p = record { times = refl; values = refl; pre = refl; handler = ref
 
 -- For an accepted run or settled run and any list of calls whose accepted ones have its series, choices, window and reach and, joined in order, its output times:
 -- their answers joined are its answers, and their counts add up to its count plus its samples once for each accepted one after the first.
-pub cut-rejoins : (whole : Call) (pieces : List Call) → checked whole ≡ Accepted → Cut whole pieces → Rejoined whole pieces
+pub cut-rejoins : (whole : Call) (pieces : List Call) → checked whole ≡ Ok tt → Cut whole pieces → Rejoined whole pieces
 cut-rejoins whole pieces ok cut =
     let p = plan whole in
-    let own : checked whole ≡ Accepted → Alike p p = λ e. alike-itself p in
+    let own : checked whole ≡ Ok tt → Alike p p = λ e. alike-itself p in
     let some : 0 < total accepted pieces = at_least_one (total accepted pieces) refl in
     record {
       answers = joined-answers p pieces cut.alike ∙ ap (figures_by p) cut.times ∙ sym (call-answers p whole own);

@@ -23,8 +23,8 @@ use Rattle.run.specs.Run.{Lent, lent_checked, row12, row14, run_checked, settled
 use Rattle.series.specs.Answers.{outcome_of, reply_of}
 use Rattle.series.specs.Refusals.{first_refusal, number_and_index, refused_if}
 use Rattle.series.specs.Rows.{max_readings, row1, row13, row2, row3, row4, row5, series_checked, time_inside, times_checked}
-use Rattle.series.specs.declared.refusal.Checked.{Checked}
-use Rattle.series.specs.declared.refusal.Checked.TheVariants.{Accepted, Refused}
+use Rattle.series.specs.Refusals.{Checked}
+use Rattle.std.specs.Prelude.{Ok, Err}
 use Rattle.series.specs.declared.refusal.Refusal.{Refusal}
 use Rattle.series.specs.declared.refusal.Refusal.TheVariants.{StepOutside, SpanOutside, WindowOutside, SettingOutside, OverPointLimit, TooManyPoints, OutputShort, PreparedShort, WorkShort, LimitNotFinite, IndexesShort, ValuesDiffer, ResultShort}
 use Rattle.series.proofs.Accepted.{all-accept}
@@ -38,28 +38,28 @@ use Rattle.claims.specs.Merged.{NoneOf1To5, PastFive}
 
 -- it accepts, or its number is above 5
 abbrev Late : Checked → Type 0
-Late Accepted = Unit
-Late (Refused r) = 5 < (number_and_index r).0
+Late (Ok tt) = Unit
+Late (Err r) = 5 < (number_and_index r).0
 
 late-if : (condition : Bool) (r : Refusal) → 5 < (number_and_index r).0 → Late (refused_if condition r)
 late-if true r h = h
 late-if false r h = tt
 
-late-accepted : {c : Checked} → c ≡ Accepted → Late c
+late-accepted : {c : Checked} → c ≡ Ok tt → Late c
 late-accepted e = rw e tt
 
 late-first : (rows : List Checked) → All Late rows → Late (first_refusal rows)
 late-first [] a = tt
-late-first (Accepted ∷ rows) a = late-first rows a.1
-late-first (Refused r ∷ rows) a = a.0
+late-first (Ok tt ∷ rows) a = late-first rows a.1
+late-first (Err r ∷ rows) a = a.0
 
 past-reply : {A : Type 0} (c : Checked) (x : A) → Late c → PastFive (reply_of c x)
-past-reply Accepted x l = inl refl
-past-reply (Refused r) x l = inr l
+past-reply (Ok tt) x l = inl refl
+past-reply (Err r) x l = inr l
 
 past-outcome : {A L : Type 0} (c : Checked) (x : A) (new old : L) → Late c → PastFive (outcome_of c x new old).answer
-past-outcome Accepted x new old l = inl refl
-past-outcome (Refused r) x new old l = inr l
+past-outcome (Ok tt) x new old l = inl refl
+past-outcome (Err r) x new old l = inr l
 
 -- ---- the rows after 5
 
@@ -110,8 +110,8 @@ late-lent n m l =
 
 -- ---- a series that rows 1 to 5 accept
 
-module _ (s : Series) (ok : series_checked s.times s.values ≡ Accepted) where
-  times-ok : times_checked s.times ≡ Accepted
+module _ (s : Series) (ok : series_checked s.times s.values ≡ Ok tt) where
+  times-ok : times_checked s.times ≡ Ok tt
   unfolding series_checked
   times-ok = (all-accept (row1 s.times s.values ∷ times_checked s.times ∷ row5 s.values ∷ []) ok).1.0
 
@@ -119,7 +119,7 @@ module _ (s : Series) (ok : series_checked s.times s.values ≡ Accepted) where
   unfolding times_checked asked_checked
   late_asked t e =
       let rows = all-accept (row2 s.times ∷ row3 s.times ∷ row4 s.times ∷ []) times-ok in
-      let asked : row3_asked t ≡ Accepted = rw e in
+      let asked : row3_asked t ≡ Ok tt = rw e in
       late-first (row2 s.times ∷ row3 s.times ∷ row3_asked t ∷ row4 s.times ∷ [])
       (late-accepted rows.0, (late-accepted rows.1.0, (late-accepted asked, (late-accepted rows.1.1.0, tt))))
 
@@ -146,15 +146,15 @@ module _ (s : Series) (ok : series_checked s.times s.values ≡ Accepted) where
       late-first (series_checked s.times s.values ∷ row15 limit ∷ row16 (length (crossing_indexes limit s.values)) room ∷ [])
       (late-accepted ok, (late-if (not (finite limit)) LimitNotFinite (omega arith), (late-if (ltb room (length (crossing_indexes limit s.values))) IndexesShort (omega arith), tt)))
 
-late-merge : (a b old : Series) → strict_checked a.times a.values ≡ Accepted → strict_checked b.times b.values ≡ Accepted → ltb max_readings (length (together a b)) ≡ false → Late (merge_checked a b old)
+late-merge : (a b old : Series) → strict_checked a.times a.values ≡ Ok tt → strict_checked b.times b.values ≡ Ok tt → ltb max_readings (length (together a b)) ≡ false → Late (merge_checked a b old)
 unfolding merge_checked
 late-merge a b old e f few =
     let n = length (together a b) in
-    let within : distinct_row2 n ≡ Accepted = rw few in
+    let within : distinct_row2 n ≡ Ok tt = rw few in
     late-first (strict_checked a.times a.values ∷ strict_checked b.times b.values ∷ distinct_row2 n ∷ row17 (differ a b) ∷ row18 n (length old.times) (length old.values) ∷ [])
     (late-accepted e, (late-accepted f, (late-accepted within, (late-if (differ a b) ValuesDiffer (omega arith), (late-if (ltb (length old.times) n || ltb (length old.values) n) ResultShort (omega arith), tt)))))
 
-none-of-1-to-5 : (s : Series) → series_checked s.times s.values ≡ Accepted → strict_checked s.times s.values ≡ Accepted → NoneOf1To5 s
+none-of-1-to-5 : (s : Series) → series_checked s.times s.values ≡ Ok tt → strict_checked s.times s.values ≡ Ok tt → NoneOf1To5 s
 unfolding settle_of
 none-of-1-to-5 s ok strict = record {
   by_prepare = λ pre prepared. past-outcome (prepare_checked s.times s.values (length prepared)) _ _ _ (late-prepare s ok (length prepared));
@@ -169,5 +169,5 @@ none-of-1-to-5 s ok strict = record {
 }
 
 -- No call gives what an accepted merge writes any of 1 to 5.
-pub merge-none-of-1-to-5 : (a b old : Series) → merge_checked a b old ≡ Accepted → NoneOf1To5 (series_of (together a b))
+pub merge-none-of-1-to-5 : (a b old : Series) → merge_checked a b old ≡ Ok tt → NoneOf1To5 (series_of (together a b))
 merge-none-of-1-to-5 a b old ok = none-of-1-to-5 (series_of (together a b)) (merge-series a b old ok) (merge-strict a b old ok)

@@ -11,7 +11,7 @@ use lib.ListN.{length}
 use Rattle.harzoulin.specs.declared.runs.Choice.{Choice}
 use Rattle.harzoulin.specs.declared.runs.Choice.TheVariants.{Named, Unnamed}
 use Rattle.rollup.specs.declared.handler.RollupHandler.{RollupHandler}
-use Rattle.series.specs.declared.refusal.Checked.TheVariants.{Accepted}
+use Rattle.std.specs.Prelude.{Ok}
 use Rattle.steps.specs.declared.PreFunction.{PreFunction}
 use Rattle.claims.specs.Calls.{Call, Settings, run, settled, accepted, answers, checked, counted, plan, returned, samples}
 use Rattle.claims.specs.Cut.{Cut, joined, total}
@@ -84,7 +84,7 @@ module _ (e : NumberedCall) where
 
 -- For an accepted call of an exported run and any list of such calls, some perhaps refused, 28 among the refusals: where the calls that the list makes are a cut
 -- of the call that it makes, the replies rejoin as the calls do.
-pub numbered-cut-rejoins : (whole : NumberedCall) (pieces : List NumberedCall) (c : Call) → made whole ≡ c ∷ [] → checked c ≡ Accepted → Cut c (joined made pieces)
+pub numbered-cut-rejoins : (whole : NumberedCall) (pieces : List NumberedCall) (c : Call) → made whole ≡ c ∷ [] → checked c ≡ Ok tt → Cut c (joined made pieces)
     → NumberedRejoined whole pieces
 unfolding joined total
 numbered-cut-rejoins whole pieces c one ok cut =

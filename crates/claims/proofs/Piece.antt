@@ -18,8 +18,8 @@ use Rattle.run.specs.Run.{Lent, Plan, lent_checked, planned, row12, row14, settl
 use Rattle.settings.specs.declared.SettledConfig.{SettledConfig}
 use Rattle.series.specs.Refusals.{first_refusal, refused_if}
 use Rattle.series.specs.Rows.{row1, row5, row13, series_checked, times_checked}
-use Rattle.series.specs.declared.refusal.Checked.{Checked}
-use Rattle.series.specs.declared.refusal.Checked.TheVariants.{Accepted, Refused}
+use Rattle.series.specs.Refusals.{Checked}
+use Rattle.std.specs.Prelude.{Ok, Err}
 use Rattle.series.specs.declared.refusal.Refusal.{Refusal}
 use Rattle.series.specs.declared.refusal.Refusal.TheVariants.{OutputShort, PreparedShort, WorkShort}
 use Rattle.series.proofs.Accepted.{AllAccept, all-accept}
@@ -44,18 +44,18 @@ end_of (settled sc) = sc.end
 record SoundCall (s : Settings) (p : Plan) : Type 0 where
   span : Spans (start_of s) (end_of s) (step_of s)
   grid : p.outputs ≡ grid_from (start_of s) (step_of s) (grid_size (start_of s) (end_of s) (step_of s))
-  eight : settled_row8 p.window p.reach ≡ Accepted
-  nine : settled_row9 p.per_call ≡ Accepted
+  eight : settled_row8 p.window p.reach ≡ Ok tt
+  nine : settled_row9 p.per_call ≡ Ok tt
   few : grid_size (start_of s) (end_of s) (step_of s) ≤ max_grid_points
 
-sound : (c : Call) → checked c ≡ Accepted → SoundCall c.settings (plan c)
+sound : (c : Call) → checked c ≡ Ok tt → SoundCall c.settings (plan c)
 unfolding series_checked
 sound c ok = go c.settings (rows-accept c ok).1.0
   where
-    times : times_checked c.times ≡ Accepted
+    times : times_checked c.times ≡ Ok tt
     times = (all-accept (row1 c.times c.values ∷ times_checked c.times ∷ row5 c.values ∷ []) (rows-accept c ok).0).1.0
 
-    go : (s : Settings) → settings_rows s ≡ Accepted → SoundCall s (plan_by c s)
+    go : (s : Settings) → settings_rows s ≡ Ok tt → SoundCall s (plan_by c s)
     go (run rc) e = let r = run_sound c.times rc times e in record { span = r.span; grid = refl; eight = r.eight; nine = r.nine; few = r.few }
     go (settled sc) e = let r = settled-sound sc e in record { span = r.span; grid = refl; eight = r.eight; nine = r.nine; few = r.few }
 
@@ -70,36 +70,36 @@ within-outside t w = rw (lt_not_le t (neg_ℤ (pos time_limit)), lt_not_le (pos 
     go true false e = absurd (true≢false (sym e))
     go false b e = absurd (true≢false (sym e))
 
-span-passes : {start end step : ℤ} → Spans start end step → row7 start end ≡ Accepted
+span-passes : {start end step : ℤ} → Spans start end step → row7 start end ≡ Ok tt
 unfolding span_outside
 span-passes {start} {end} s =
     rw (within-outside start s.start_within, within-outside end s.end_within, lt_not_le end start, s.ordered)
 
-step-passes : (step : ℤ) → le_z (pos 1) step ≡ true → Within time_limit step → row6 step ≡ Accepted
+step-passes : (step : ℤ) → le_z (pos 1) step ≡ true → Within time_limit step → row6 step ≡ Ok tt
 unfolding outside
 step-passes (pos n) h w = rw (lt_not_le (pos n) (pos 1), h, le-ltb time_limit n w.size)
 step-passes (negsuc n) h w = absurd (true≢false (sym h))
 
 -- ---- the rows on slices
 
-refused-not : {r : Refusal} → Refused r ≡ Accepted → ⊥
+refused-not : {r : Refusal} → Err r ≡ Ok tt → ⊥
 refused-not e = let clash : ◌≡◌ {A = ℕ} 0 1 = cc in omega arith
 
 -- where the others accept
-slices-only : (x y : Checked) (d p w : Bool) (q : Plan) (l : Lent) → x ≡ Accepted → y ≡ Accepted
+slices-only : (x y : Checked) (d p w : Bool) (q : Plan) (l : Lent) → x ≡ Ok tt → y ≡ Ok tt
     → OnlySlices (planned (first_refusal (x ∷ y ∷ first_refusal (refused_if d OutputShort ∷ refused_if p PreparedShort ∷ refused_if w WorkShort ∷ []) ∷ [])) q l).answer
-slices-only (Refused r) y d p w q l e f = absurd (refused-not e)
-slices-only Accepted (Refused r) d p w q l e f = absurd (refused-not f)
-slices-only Accepted Accepted true p w q l e f = inr (omega arith, omega arith)
-slices-only Accepted Accepted false true w q l e f = inr (omega arith, omega arith)
-slices-only Accepted Accepted false false true q l e f = inr (omega arith, omega arith)
-slices-only Accepted Accepted false false false q l e f = inl refl
+slices-only (Err r) y d p w q l e f = absurd (refused-not e)
+slices-only (Ok tt) (Err r) d p w q l e f = absurd (refused-not f)
+slices-only (Ok tt) (Ok tt) true p w q l e f = inr (omega arith, omega arith)
+slices-only (Ok tt) (Ok tt) false true w q l e f = inr (omega arith, omega arith)
+slices-only (Ok tt) (Ok tt) false false true q l e f = inr (omega arith, omega arith)
+slices-only (Ok tt) (Ok tt) false false false q l e f = inl refl
 
-all-accepted : (rows : List Checked) → AllAccept rows → first_refusal rows ≡ Accepted
+all-accepted : (rows : List Checked) → AllAccept rows → first_refusal rows ≡ Ok tt
 all-accepted [] a = refl
 all-accepted (r ∷ rows) a = rw a.0 (all-accepted rows a.1)
 
-module _ (c : Call) (ok : checked c ≡ Accepted) (a b : ℕ) (order : a ≤ b) (inside : b < length (plan c).outputs) where
+module _ (c : Call) (ok : checked c ≡ Ok tt) (a b : ℕ) (order : a ≤ b) (inside : b < length (plan c).outputs) where
   abbrev step : ℤ
   step = step_of c.settings
 
@@ -132,7 +132,7 @@ module _ (c : Call) (ok : checked c ≡ Accepted) (a b : ℕ) (order : a ≤ b) 
   abbrev stretch : SettledConfig
   stretch = record { start = from; end = to; step = step; window = (plan c).window; reach = (plan c).reach; samples_scanned_per_call = (plan c).per_call }
 
-  piece-settings : settled_settings stretch ≡ Accepted
+  piece-settings : settled_settings stretch ≡ Ok tt
   unfolding settled_settings
   piece-settings =
       let s = sound c ok in
@@ -155,14 +155,14 @@ module _ (c : Call) (ok : checked c ≡ Accepted) (a b : ℕ) (order : a ≤ b) 
       (plan (piece c a b l)) l (rows-accept c ok).0 piece-settings
 
   -- with slices that have the room, it is accepted
-  pub piece-with-room : (l : Lent) → Room (length c.values) (b - a + 1) l → checked (piece c a b l) ≡ Accepted
+  pub piece-with-room : (l : Lent) → Room (length c.values) (b - a + 1) l → checked (piece c a b l) ≡ Ok tt
   unfolding settled_checked slices_checked
   piece-with-room l r =
       let n = length c.values in
       let m = grid_size from to step in
-      let dst : row12 m (length l.dst) ≡ Accepted = rw (le-ltb (length l.dst) m (omega (arith, piece-size, r.dst))) in
-      let prepared : row13 n (length l.prepared) ≡ Accepted = rw (le-ltb (length l.prepared) n r.prepared) in
-      let work : row14 n (length l.work) ≡ Accepted = rw (le-ltb (length l.work) (2 * n) r.work) in
+      let dst : row12 m (length l.dst) ≡ Ok tt = rw (le-ltb (length l.dst) m (omega (arith, piece-size, r.dst))) in
+      let prepared : row13 n (length l.prepared) ≡ Ok tt = rw (le-ltb (length l.prepared) n r.prepared) in
+      let work : row14 n (length l.work) ≡ Ok tt = rw (le-ltb (length l.work) (2 * n) r.work) in
       all-accepted
       (series_checked c.times c.values ∷ settled_settings stretch ∷ lent_checked n m l ∷ [])
       ((rows-accept c ok).0, (piece-settings, (all-accepted (row12 m (length l.dst) ∷ row13 n (length l.prepared) ∷ row14 n (length l.work) ∷ []) (dst, (prepared, (work, tt))), tt)))

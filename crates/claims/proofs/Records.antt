@@ -18,7 +18,7 @@ use lib.Ieee.Fits.{nan-fits}
 use borrow.Author.Tests.{le-leb, not-false}
 use Rattle.settings.specs.Rows.{outside, settled_outside, settled_row8}
 use Rattle.rollup.specs.declared.handler.RollupHandler.{RollupHandler}
-use Rattle.series.specs.declared.refusal.Checked.TheVariants.{Accepted}
+use Rattle.std.specs.Prelude.{Ok}
 use Rattle.series.specs.declared.refusal.Refusal.TheVariants.{WindowOutside}
 use Rattle.series.proofs.Accepted.{fails}
 use Rattle.times.specs.Readings.{filter, cons_if}
@@ -184,7 +184,7 @@ module _ (a b : List Reading) (w r t : ℤ) (h : le_z (pos 0) w ≡ true) where
       }
 
 -- a window that row 8 passes is not negative
-window-positive : (w r : ℤ) → settled_row8 w r ≡ Accepted → le_z (pos 0) w ≡ true
+window-positive : (w r : ℤ) → settled_row8 w r ≡ Ok tt → le_z (pos 0) w ≡ true
 unfolding settled_outside outside
 window-positive (pos n) r e = le-leb 0 n (omega arith)
 window-positive (negsuc n) r e = absurd (true≢false (fails (settled_outside (negsuc n) r) WindowOutside e))
@@ -230,7 +230,7 @@ same_bits a b w r t w' r' t' e = sym (back a w r t) ∙ ap from_record_bits e �
 -- ---- equal records and agreement
 
 -- Run and settled run hand the rollup equal records for both at t exactly when the two series agree.
-pub records-agree : (a b : List Reading) → Prepared a → Prepared b → NoNan a → NoNan b → (w r t : ℤ) → settled_row8 w r ≡ Accepted
+pub records-agree : (a b : List Reading) → Prepared a → Prepared b → NoNan a → NoNan b → (w r t : ℤ) → settled_row8 w r ≡ Ok tt
     → record_bits (record_at a w r t) ≡ record_bits (record_at b w r t) ↔ Agree a b w r t
 records-agree a b pa pb na nb w r t row8 =
     let h = window-positive w r row8 in (

@@ -8,7 +8,7 @@ use lib.IntN.{ℤ}
 use lib.ListN.{length, take, drop, take-append-drop}
 use lib.Seq.{drop-drop, drop-length}
 use Rattle.run.specs.Run.{Lent}
-use Rattle.series.specs.declared.refusal.Checked.TheVariants.{Accepted}
+use Rattle.std.specs.Prelude.{Ok}
 use Rattle.claims.specs.Calls.{Call, Settings, run, settled, checked, output_times, plan, plan_by}
 use Rattle.claims.specs.Cut.{AcceptedAlike, Alike, Cut, joined}
 use Rattle.claims.specs.Piece.{Roomy, Stretch, piece, spanned, stretched}
@@ -23,7 +23,7 @@ piece-alike c a b l = go c.settings
     go (run rc) = record { times = refl; values = refl; pre = refl; handler = refl; per_call = refl; window = refl; reach = refl }
     go (settled sc) = record { times = refl; values = refl; pre = refl; handler = refl; per_call = refl; window = refl; reach = refl }
 
-module _ (c : Call) (ok : checked c ≡ Accepted) where
+module _ (c : Call) (ok : checked c ≡ Ok tt) where
   abbrev outputs : List ℤ
   outputs = (plan c).outputs
 

@@ -7,7 +7,7 @@ use Rattle.std.specs.Float.Ieee.{is_nan, of_bits, to_bits}
 use Rattle.ieee.specs.Patterns.{floats, patterns}
 use Rattle.series.specs.Rows.{series_checked}
 use Rattle.steps.specs.Steps.{prepared_of}
-use Rattle.series.specs.declared.refusal.Checked.TheVariants.{Accepted}
+use Rattle.std.specs.Prelude.{Ok}
 use Rattle.steps.specs.declared.PreFunction.{PreFunction}
 use Rattle.record.specs.Record.{Reading, Record, readings, window, earlier, later, next, time_of, bits_of, reached}
 
@@ -16,7 +16,7 @@ pub record Prepared (s : List Reading) : Type 0 where
   pub times : List ℤ
   pub values : List ℕ
   pub pre : PreFunction
-  pub accepted : series_checked times values ≡ Accepted
+  pub accepted : series_checked times values ≡ Ok tt
   pub prepared : s ≡ readings times (patterns (prepared_of pre times (floats values)))
 
 -- without NaN

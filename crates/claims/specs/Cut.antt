@@ -2,7 +2,7 @@
 -- Assumes nothing.
 use Rattle.std.specs.Prelude.{List, [], ◌∷◌, ◌++◌, ◌≡◌, ℕ, ◌+◌, ◌-◌, ◌*◌, ◌<◌}
 use Rattle.run.specs.Run.{Plan}
-use Rattle.series.specs.declared.refusal.Checked.TheVariants.{Accepted}
+use Rattle.std.specs.Prelude.{Ok}
 use Rattle.claims.specs.Calls.{Call, accepted, answers, checked, counted, output_times, plan, samples}
 
 -- two calls go by the same series, choices (step, rollup and per-call number), window and reach
@@ -27,7 +27,7 @@ total f (c ∷ cs) = f c + total f cs
 -- the accepted ones of a list are alike to a plan; refused ones may be given anything
 abbrev pub AcceptedAlike : Plan → List Call → Type 0
 AcceptedAlike p [] = Unit {0}
-AcceptedAlike p (c ∷ cs) = (checked c ≡ Accepted → Alike (plan c) p) × AcceptedAlike p cs
+AcceptedAlike p (c ∷ cs) = (checked c ≡ Ok tt → Alike (plan c) p) × AcceptedAlike p cs
 
 -- the accepted ones of a list have the whole call's series, choices, window and reach and, joined in order, its output times
 pub record Cut (whole : Call) (pieces : List Call) : Type 0 where

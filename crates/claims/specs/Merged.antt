@@ -11,7 +11,7 @@ use Rattle.rollup.specs.declared.handler.RollupHandler.{RollupHandler}
 use Rattle.run.specs.Run.{Lent, run_of, settled_run_of}
 use Rattle.series.specs.Answers.{Reply}
 use Rattle.series.specs.Rows.{max_readings, time_inside}
-use Rattle.series.specs.declared.refusal.Checked.TheVariants.{Accepted}
+use Rattle.std.specs.Prelude.{Ok}
 use Rattle.settings.specs.declared.RollupConfig.{RollupConfig}
 use Rattle.settings.specs.declared.SettledConfig.{SettledConfig}
 use Rattle.steps.specs.declared.PreFunction.{PreFunction}
@@ -22,7 +22,7 @@ PastFive a = (a.number ≡ 0) ⊎ (5 < a.number)
 
 -- the two are merged within limit 2, and the other one is no reason to refuse
 pub record Mergeable (s other : Series) : Type 0 where
-  pub accepted : strict_checked other.times other.values ≡ Accepted
+  pub accepted : strict_checked other.times other.values ≡ Ok tt
   pub few : length (together s other) ≤ max_readings
   pub few_other : length (together other s) ≤ max_readings
 

@@ -10,7 +10,7 @@ use Rattle.times.specs.Milli.{time_limit, Within}
 use Rattle.times.specs.Later.{NotFalling}
 use Rattle.times.proofs.Later.{rising-not-falling}
 use Rattle.series.specs.Rows.{times_checked}
-use Rattle.series.specs.declared.refusal.Checked.TheVariants.{Accepted}
+use Rattle.std.specs.Prelude.{Ok}
 use Rattle.series.proofs.Accepted.{accepted-times}
 use Rattle.series.proofs.Times.{within_all, rising}
 use Rattle.config.specs.Estimate.{distances_from, distances}
@@ -38,8 +38,8 @@ distance-at (t ∷ ts) i h = from_at t ts i (omega arith)
 
 -- ---- accepted times
 
-pub not-falling : (ts : List ℤ) → times_checked ts ≡ Accepted → NotFalling ts
+pub not-falling : (ts : List ℤ) → times_checked ts ≡ Ok tt → NotFalling ts
 not-falling ts e = rising-not-falling (rising ts (accepted-times ts e).all_rise)
 
-pub within : (ts : List ℤ) → times_checked ts ≡ Accepted → (i : ℕ) → i < length ts → Within time_limit (get_or ts i (pos 0))
+pub within : (ts : List ℤ) → times_checked ts ≡ Ok tt → (i : ℕ) → i < length ts → Within time_limit (get_or ts i (pos 0))
 within ts e i h = within_all ts (accepted-times ts e).all_inside i h

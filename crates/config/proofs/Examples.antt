@@ -9,7 +9,7 @@ use Rattle.ieee.specs.Value.{floor_of}
 use Rattle.sort.specs.Values.{kept}
 use Rattle.order.specs.Sort.{insert_by, sort_by}
 use Rattle.quantile.specs.Quantile.{between, at_rank, rank_of, quantile_sorted, quantile_of}
-use Rattle.series.specs.declared.refusal.Checked.TheVariants.{Accepted, Refused}
+use Rattle.std.specs.Prelude.{Ok, Err}
 use Rattle.series.specs.declared.refusal.Refusal.TheVariants.{OverPointLimit, WindowOutside}
 use Rattle.config.specs.Estimate.{distances, distances_from, estimate_of}
 use Rattle.config.specs.Reach.{reach_of, bounded_reach, window_of}
@@ -43,19 +43,19 @@ unfolding window_of
 window-of-0 = refl
 
 -- start 0, end 10, step 1: limit 5 passes, 4 is refused
-pub limit-of-5 : row10 (pos 0) (pos 10) (pos 1) (pos 5) ≡ Accepted
+pub limit-of-5 : row10 (pos 0) (pos 10) (pos 1) (pos 5) ≡ Ok tt
 unfolding over_point_limit
 limit-of-5 = refl
 
-pub limit-of-4 : row10 (pos 0) (pos 10) (pos 1) (pos 4) ≡ Refused OverPointLimit
+pub limit-of-4 : row10 (pos 0) (pos 10) (pos 1) (pos 4) ≡ Err OverPointLimit
 unfolding over_point_limit
 limit-of-4 = refl
 
 -- settled: window 2^52 passes, 0 is refused
-pub longest-window : settled_row8 (pos settled_limit) (pos 1) ≡ Accepted
+pub longest-window : settled_row8 (pos settled_limit) (pos 1) ≡ Ok tt
 unfolding outside settled_outside
 longest-window = refl
 
-pub no-window : settled_row8 (pos 0) (pos 1) ≡ Refused WindowOutside
+pub no-window : settled_row8 (pos 0) (pos 1) ≡ Err WindowOutside
 unfolding outside settled_outside
 no-window = refl

@@ -14,8 +14,8 @@ use Rattle.ieee.proofs.Tests.{by-test}
 use Rattle.series.specs.Answers.{Reply, gives, reply_of}
 use Rattle.series.specs.Refusals.{first_refusal}
 use Rattle.series.specs.Rows.{times_checked}
-use Rattle.series.specs.declared.refusal.Checked.{Checked}
-use Rattle.series.specs.declared.refusal.Checked.TheVariants.{Accepted, Refused}
+use Rattle.series.specs.Refusals.{Checked}
+use Rattle.std.specs.Prelude.{Ok, Err}
 use Rattle.series.proofs.Accepted.{all-accept}
 use Rattle.settings.specs.declared.RollupConfig.{RollupConfig}
 use Rattle.config.specs.Estimate.{estimate_of}
@@ -70,7 +70,7 @@ window-settleable window step adjust default lookback reach w s h =
 
 -- ---- accepted times and settings
 
-module _ (ts : List ℤ) (rc : RollupConfig) (times : times_checked ts ≡ Accepted) (settings : settings_checked rc ≡ Accepted) where
+module _ (ts : List ℤ) (rc : RollupConfig) (times : times_checked ts ≡ Ok tt) (settings : settings_checked rc ≡ Ok tt) where
   pub reach-in : Settleable (settled_reach_of ts rc)
   unfolding settled_reach_of
   reach-in =
@@ -89,12 +89,12 @@ settleable-passes : (n : ℕ) → Settleable n → outside (pos 1) (pos settled_
 unfolding outside
 settleable-passes n h = rw (le-ltb n 1 h.some, le-ltb settled_limit n h.small)
 
-given : {A : Type 0} (c : Checked) (x y : A) → reply_of c x ≡ gives y → (c ≡ Accepted) × (x ≡ y)
-given {A} Accepted x y e = (refl, cc (ap (λ (a : Reply A). a.values) e))
-given {A} (Refused r) x y e = absurd (let clash : ◌≡◌ {A = ℕ} 0 1 = cc (ap (λ (a : Reply A). a.values) e) in omega arith)
+given : {A : Type 0} (c : Checked) (x y : A) → reply_of c x ≡ gives y → (c ≡ Ok tt) × (x ≡ y)
+given {A} (Ok tt) x y e = (refl, cc (ap (λ (a : Reply A). a.values) e))
+given {A} (Err r) x y e = absurd (let clash : ◌≡◌ {A = ℕ} 0 1 = cc (ap (λ (a : Reply A). a.values) e) in omega arith)
 
 -- What an accepted settle gives passes row 8 of a settled run.
-pub settled-in-range : (ts : List ℤ) (rc : RollupConfig) (s : Settlement) → settle_of ts rc ≡ gives s → settled_row8 s.window s.reach ≡ Accepted
+pub settled-in-range : (ts : List ℤ) (rc : RollupConfig) (s : Settlement) → settle_of ts rc ≡ gives s → settled_row8 s.window s.reach ≡ Ok tt
 unfolding settle_of settled_outside
 settled-in-range ts rc s e =
     let both = given (first_refusal (times_checked ts ∷ settings_checked rc ∷ [])) (settlement ts rc) s e in

@@ -1,29 +1,27 @@
 // Settling: from times and settings to a window, a reach and the number of output times.
 
-ghost use Rattle.std.specs.Prelude.{◌≡◌};
-ghost use Rattle.series.specs.Answers.{gives, reply_of};
+ghost use Rattle.std.specs.Prelude.{Ok, ◌≡◌};
+ghost use Rattle.series.specs.Answers.{reply, reply_of};
 ghost use Rattle.series.specs.Rows.{times_checked};
 ghost use Rattle.settings.specs.Rows.{settings_checked};
-ghost use Rattle.config.specs.Settle.{settled_reply, settlement, settle_of};
+ghost use Rattle.config.specs.Settle.{settlement, settle_of};
 
 use super::{estimate, reach};
-use series::{Checked, Refusal};
+use series::Refusal;
 use settings::RollupConfig;
 
-#[derive(Clone, Copy)]
-pub enum Settled {
-    Accepted {
-        window: i64,
-        reach: i64,
-        points: u64,
-    },
-    Refused(Refusal),
+// The window, the reach and the number of output times.
+#[derive(Clone, Copy, Debug, PartialEq, Eq)]
+pub struct Settlement {
+    pub window: i64,
+    pub reach: i64,
+    pub points: u64,
 }
 
 // What accepted times and settings settle to.
-fn settle_accepted(timestamps: &[i64], rc: RollupConfig) -> Settled
-    requires { (times_checked timestamps.now ≡ Checked.Accepted) × (settings_checked rc ≡ Checked.Accepted) }
-    ensures { settled_reply result ≡ gives (settlement timestamps.now rc) }
+fn settle_accepted(timestamps: &[i64], rc: RollupConfig) -> Settlement
+    requires { (times_checked timestamps.now ≡ Ok tt) × (settings_checked rc ≡ Ok tt) }
+    ensures { result ≡ settlement timestamps.now rc }
 {
     let scrape_interval = estimate::get_scrape_interval(timestamps);
     let max_prev_interval = reach::get_max_prev_interval(scrape_interval);
@@ -40,7 +38,7 @@ fn settle_accepted(timestamps: &[i64], rc: RollupConfig) -> Settled
         lookback_delta,
         far,
     );
-    Settled::Accepted {
+    Settlement {
         window: window as i64,
         reach: far as i64,
         points: times::grid::points(rc.start, rc.end, rc.step),
@@ -48,24 +46,18 @@ fn settle_accepted(timestamps: &[i64], rc: RollupConfig) -> Settled
 }
 
 // The window, the reach and the number of output times, or the first of rows 6 to 11 that refuses.
-pub fn settle_settings(timestamps: &[i64], rc: RollupConfig) -> Settled
-    requires { times_checked timestamps.now ≡ Checked.Accepted }
-    ensures { settled_reply result ≡ reply_of (settings_checked rc) (settlement timestamps.now rc) }
+pub fn settle_settings(timestamps: &[i64], rc: RollupConfig) -> Result<Settlement, Refusal>
+    requires { times_checked timestamps.now ≡ Ok tt }
+    ensures { reply result ≡ reply_of (settings_checked rc) (settlement timestamps.now rc) }
 {
-    let checked = settings::check_settings(rc);
-    if let Checked::Refused(r) = checked {
-        return Settled::Refused(r);
-    }
-    settle_accepted(timestamps, rc)
+    settings::check_settings(rc)?;
+    Ok(settle_accepted(timestamps, rc))
 }
 
 // The same, with rows 2 to 4 before.
-pub fn settle(timestamps: &[i64], rc: RollupConfig) -> Settled
-    ensures { settled_reply result ≡ settle_of timestamps.now rc }
+pub fn settle(timestamps: &[i64], rc: RollupConfig) -> Result<Settlement, Refusal>
+    ensures { reply result ≡ settle_of timestamps.now rc }
 {
-    let times = series::check_times(timestamps);
-    if let Checked::Refused(r) = times {
-        return Settled::Refused(r);
-    }
+    series::check_times(timestamps)?;
     settle_settings(timestamps, rc)
 }

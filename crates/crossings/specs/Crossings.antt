@@ -11,7 +11,7 @@ use Rattle.series.specs.Answers.{Outcome, Reply, gives, outcome_of, refuses}
 use Rattle.series.specs.Refusals.{first_refusal, refused_if}
 use Rattle.series.specs.Rows.{series_checked}
 use Rattle.series.specs.declared.refusal.Refusal.TheVariants.{LimitNotFinite, IndexesShort}
-use Rattle.series.specs.declared.refusal.Checked.{Checked}
+use Rattle.series.specs.Refusals.{Checked}
 use Rattle.crossings.specs.declared.listed.Listed.{Listed}
 use Rattle.crossings.specs.declared.listed.Listed.TheVariants.{Count, Refused}
 

@@ -8,7 +8,7 @@ use Rattle.series.specs.Answers.{Reply, gives, refuses, reply_of}
 use Rattle.series.specs.Refusals.{first_refusal, refused_if}
 use Rattle.series.specs.Rows.{row2, row3, row4, time_inside}
 use Rattle.series.specs.declared.refusal.Refusal.TheVariants.{TimeOutside}
-use Rattle.series.specs.declared.refusal.Checked.{Checked}
+use Rattle.series.specs.Refusals.{Checked}
 use Rattle.crossings.specs.declared.nearer.Found.{Found}
 use Rattle.crossings.specs.declared.nearer.Found.TheVariants.{At, Nothing, Refused}
 

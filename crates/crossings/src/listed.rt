@@ -76,16 +76,13 @@ fn list(values: &[u64], limit: f64, indexes: &mut [u64])
 pub fn crossings(timestamps: &[i64], values: &[u64], limit: f64, indexes: &mut [u64]) -> Listed
     ensures { outcome (listed_reply result) indexes.new ≡ crossings_of timestamps.now values.now limit indexes.old }
 {
-    let checked = series::check_series(timestamps, values);
-    if let Checked::Refused(r) = checked {
-        return Listed::Refused(r);
-    }
+    series::check_series(timestamps, values)?;
     if !is_number(limit) {
-        return Listed::Refused(Refusal::LimitNotFinite);
+        return Err(Refusal::LimitNotFinite);
     }
     let n = count(values, limit);
     if indexes.len() < n {
-        return Listed::Refused(Refusal::IndexesShort);
+        return Err(Refusal::IndexesShort);
     }
     list(values, limit, &mut indexes[..n]);
     Listed::Count(n as u64)

@@ -20,19 +20,19 @@ pub enum Found {
 }
 
 // Rows 2 to 4, and between 3 and 4 that of the asked time.
-fn check_asked(timestamps: &[i64], time: i64) -> Checked
+fn check_asked(timestamps: &[i64], time: i64) -> Result<(), Refusal>
     ensures { result ≡ asked_checked timestamps.now time }
 {
     let times = series::check_times(timestamps);
     if series::is_inside(time) {
         return times;
     }
-    if let Checked::Refused(r) = times {
+    if let Err(r) = times {
         if r.number() < 4 {
-            return Checked::Refused(r);
+            return Err(r);
         }
     }
-    Checked::Refused(Refusal::TimeOutside(0))
+    Err(Refusal::TimeOutside(0))
 }
 
 // Whether the later of two times around the asked one is nearer to it.
@@ -67,10 +67,7 @@ fn seek_nearest(timestamps: &[i64], time: i64) -> usize
 pub fn nearest(timestamps: &[i64], time: i64) -> Found
     ensures { found_reply result ≡ nearest_of timestamps.now time }
 {
-    let checked = check_asked(timestamps, time);
-    if let Checked::Refused(r) = checked {
-        return Found::Refused(r);
-    }
+    check_asked(timestamps, time)?;
     if timestamps.len() == 0 {
         return Found::Nothing;
     }

@@ -29,7 +29,7 @@ pub fn harzoulin_merge(
         values,
     );
     match merged {
-        Merged::Refused(r) => refuse(r, index),
+        Err(r) => refuse(r, index),
         Merged::Length(n) => {
             *length = n as u64;
             *index = 0;

@@ -23,7 +23,7 @@ pub fn harzoulin_prepare(
         return refuse(Refusal::UnknownNumber, index);
     };
     let checked = prepare::prepare(timestamps, values, known, prepared);
-    if let Checked::Refused(r) = checked {
+    if let Err(r) = checked {
         return refuse(r, index);
     }
     *index = 0;

@@ -21,7 +21,7 @@ pub fn harzoulin_crossings(
 {
     let listed = crossings::crossings(timestamps, values, limit, indexes);
     match listed {
-        Listed::Refused(r) => refuse(r, index),
+        Err(r) => refuse(r, index),
         Listed::Count(n) => {
             *count = n;
             *index = 0;
@@ -42,7 +42,7 @@ pub fn harzoulin_nearest(
 {
     let place = crossings::nearest(timestamps, time);
     match place {
-        Found::Refused(r) => refuse(r, index),
+        Err(r) => refuse(r, index),
         Found::Nothing => {
             *found = 0;
             *nearest = 0;

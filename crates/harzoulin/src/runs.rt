@@ -52,8 +52,8 @@ fn reply(figures: Figures, count: &mut u64, index: &mut u64) -> u64
     ensures count { count.new ≡ get_or (figures_reply figures).values count.old }
 {
     match figures {
-        Figures::Refused(r) => refuse(r, index),
-        Figures::Counted(n) => {
+        Err(r) => refuse(r, index),
+        Ok(n) => {
             *count = n;
             *index = 0;
             0

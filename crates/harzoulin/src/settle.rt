@@ -42,7 +42,7 @@ pub fn harzoulin_settle(
     };
     let settled = config::settle::settle(timestamps, rc);
     match settled {
-        Settled::Refused(r) => refuse(r, index),
+        Err(r) => refuse(r, index),
         Settled::Accepted {
             window: w,
             reach: far,

@@ -6,7 +6,7 @@ use Rattle.ieee.specs.Patterns.{floats, patterns}
 use Rattle.series.specs.Refusals.{first_refusal}
 use Rattle.series.specs.Rows.{series_checked, row13}
 use Rattle.steps.specs.Steps.{prepared_of}
-use Rattle.series.specs.declared.refusal.Checked.{Checked}
+use Rattle.series.specs.Refusals.{Checked}
 use Rattle.steps.specs.declared.PreFunction.{PreFunction}
 
 -- rows 1 to 5 and 13, for a prepared slice of room entries

@@ -1,14 +1,14 @@
 // The values of a checked series after a preparing step.
 #![tactic(auto)]
 
-ghost use Rattle.std.specs.Prelude.{◌≡◌, length};
+ghost use Rattle.std.specs.Prelude.{Ok, ◌≡◌, length};
 ghost use Rattle.ieee.specs.Patterns.{floats, patterns};
-ghost use Rattle.series.specs.Answers.{checked_reply, outcome};
+ghost use Rattle.series.specs.Answers.{outcome, reply};
 ghost use Rattle.series.specs.Rows.{series_checked};
 ghost use Rattle.prepare.specs.Prepare.{prepare_of};
 ghost use Rattle.steps.specs.Steps.{prepared_of};
 
-use series::{Checked, Refusal, check_series};
+use series::{Refusal, check_series};
 use steps::PreFunction;
 
 // The values as they are.
@@ -25,7 +25,7 @@ fn copy(values: &[u64], prepared: &mut [u64])
 
 // The values of an accepted series after the step, in a slice of their number.
 pub fn apply(timestamps: &[i64], values: &[u64], pre: PreFunction, prepared: &mut [u64])
-    requires { (series_checked timestamps.now values.now ≡ Checked.Accepted) × (length prepared.old ≡ length values.now) }
+    requires { (series_checked timestamps.now values.now ≡ Ok tt) × (length prepared.old ≡ length values.now) }
     ensures { prepared.new ≡ patterns (prepared_of pre timestamps.now (floats values.now)) }
 {
     match pre {
@@ -44,17 +44,14 @@ pub fn prepare(
     values: &[u64],
     pre: PreFunction,
     prepared: &mut [u64],
-) -> Checked
-    ensures { outcome (checked_reply result) prepared.new ≡ prepare_of pre timestamps.now values.now prepared.old }
+) -> Result<(), Refusal>
+    ensures { outcome (reply result) prepared.new ≡ prepare_of pre timestamps.now values.now prepared.old }
 {
-    let checked = check_series(timestamps, values);
-    if let Checked::Refused(r) = checked {
-        return Checked::Refused(r);
-    }
+    check_series(timestamps, values)?;
     let n = values.len();
     if prepared.len() < n {
-        return Checked::Refused(Refusal::PreparedShort);
+        return Err(Refusal::PreparedShort);
     }
     apply(timestamps, values, pre, &mut prepared[..n]);
-    Checked::Accepted
+    Ok(())
 }

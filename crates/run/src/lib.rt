@@ -27,12 +27,12 @@ fn refused(settled: Settled) -> Figures
     ensures { (x : Refusal) → settled ≡ Settled.Refused x → result ≡ Figures.Refused x }
 {
     match settled {
-        Settled::Refused(r) => Figures::Refused(r),
+        Err(r) => Err(r),
         Settled::Accepted {
             window: _,
             reach: _,
             points: _,
-        } => Figures::Counted(0),
+        } => Ok(0),
     }
 }
 
@@ -49,10 +49,7 @@ pub fn run(
 ) -> Figures
     ensures { outcome (figures_reply result) (lent dst_values.new prepared.new work.new) ≡ run_of timestamps.now values.now pre handler rc (lent dst_values.old prepared.old work.old) }
 {
-    let checked = check_series(timestamps, values);
-    if let Checked::Refused(r) = checked {
-        return Figures::Refused(r);
-    }
+    check_series(timestamps, values)?;
     let settled = settle_settings(timestamps, rc);
     let Settled::Accepted {
         window,
@@ -88,14 +85,8 @@ pub fn settled_run(
 ) -> Figures
     ensures { outcome (figures_reply result) (lent dst_values.new prepared.new work.new) ≡ settled_run_of timestamps.now values.now pre handler sc (lent dst_values.old prepared.old work.old) }
 {
-    let checked = check_series(timestamps, values);
-    if let Checked::Refused(r) = checked {
-        return Figures::Refused(r);
-    }
-    let settings = check_settled(sc);
-    if let Checked::Refused(r) = settings {
-        return Figures::Refused(r);
-    }
+    check_series(timestamps, values)?;
+    check_settled(sc)?;
     execute::execute_within(
         timestamps,
         values,

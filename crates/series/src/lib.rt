@@ -5,4 +5,4 @@ mod checks;
 mod refusal;
 
 pub use checks::{MAX_READINGS, check_series, check_times, is_inside};
-pub use refusal::{Checked, Refusal};
+pub use refusal::Refusal;

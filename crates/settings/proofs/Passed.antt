@@ -18,8 +18,8 @@ use Rattle.times.proofs.Milli.{within-fits}
 use Rattle.times.proofs.Order.{not_below}
 use Rattle.series.specs.Refusals.{first_refusal}
 use Rattle.series.specs.declared.refusal.Refusal.TheVariants.{StepOutside, SpanOutside, WindowOutside, SettingOutside}
-use Rattle.series.specs.declared.refusal.Checked.{Checked}
-use Rattle.series.specs.declared.refusal.Checked.TheVariants.{Accepted, Refused}
+use Rattle.series.specs.Refusals.{Checked}
+use Rattle.std.specs.Prelude.{Ok, Err}
 use Rattle.series.proofs.Accepted.{all-accept, fails}
 use Rattle.settings.specs.declared.RollupConfig.{RollupConfig}
 use Rattle.settings.specs.declared.SettledConfig.{SettledConfig}
@@ -42,17 +42,17 @@ pub record Passed (rc : RollupConfig) : Type 0 where
 -- ---- rows that accept
 
 pub last_row : (row : Checked) → first_refusal (row ∷ []) ≡ row
-last_row Accepted = refl
-last_row (Refused r) = refl
+last_row (Ok tt) = refl
+last_row (Err r) = refl
 
 -- the first two of a call's rows, taken together
 pub two-rows : (a b : Checked) (rows : List Checked) → first_refusal (a ∷ b ∷ rows) ≡ first_refusal (first_refusal (a ∷ b ∷ []) ∷ rows)
-two-rows Accepted Accepted rows = refl
-two-rows Accepted (Refused r) rows = refl
-two-rows (Refused r) b rows = refl
+two-rows (Ok tt) (Ok tt) rows = refl
+two-rows (Ok tt) (Err r) rows = refl
+two-rows (Err r) b rows = refl
 
 -- a call's first two rows accept where all do
-first-two : (a b : Checked) (rows : List Checked) → first_refusal (a ∷ b ∷ rows) ≡ Accepted → (a ≡ Accepted) × (b ≡ Accepted)
+first-two : (a b : Checked) (rows : List Checked) → first_refusal (a ∷ b ∷ rows) ≡ Ok tt → (a ≡ Ok tt) × (b ≡ Ok tt)
 first-two a b rows e = let each = all-accept (a ∷ b ∷ rows) e in (each.0, each.1.0)
 
 pub or-false : (a b : Bool) → (a || b) ≡ false → (a ≡ false) × (b ≡ false)
@@ -102,13 +102,13 @@ spans start end step six seven =
       step_within = record { size = (up_to 1 time_limit step six).small };
     }
 
-pub span-passed : (start end step : ℤ) → span_checked start end step ≡ Accepted → Spans start end step
+pub span-passed : (start end step : ℤ) → span_checked start end step ≡ Ok tt → Spans start end step
 span-passed start end step e =
     let each = all-accept (row6 step ∷ row7 start end ∷ []) e in
     spans start end step (fails _ StepOutside each.0) (fails _ SpanOutside each.1.0)
 
 module _ (rc : RollupConfig) where
-  pub ranges-passed : ranges_checked rc ≡ Accepted → Passed rc
+  pub ranges-passed : ranges_checked rc ≡ Ok tt → Passed rc
   unfolding setting_outside
   ranges-passed e =
       let nine = row9 rc.lookback_delta rc.min_staleness_interval rc.max_points_per_series rc.samples_scanned_per_call in
@@ -128,13 +128,13 @@ module _ (rc : RollupConfig) where
         limit = up_to 0 time_limit rc.max_points_per_series three.1;
       }
 
-  pub settings-passed : settings_checked rc ≡ Accepted → Passed rc
+  pub settings-passed : settings_checked rc ≡ Ok tt → Passed rc
   unfolding settings_checked
   settings-passed e =
       ranges-passed
       (all-accept (ranges_checked rc ∷ row10 rc.start rc.end rc.step rc.max_points_per_series ∷ row11 rc.start rc.end rc.step ∷ []) e).0
 
-pub settled-spans : (sc : SettledConfig) → settled_settings sc ≡ Accepted → Spans sc.start sc.end sc.step
+pub settled-spans : (sc : SettledConfig) → settled_settings sc ≡ Ok tt → Spans sc.start sc.end sc.step
 unfolding settled_settings
 settled-spans sc e =
     let rows = first-two (row6 sc.step) (row7 sc.start sc.end) _ e in

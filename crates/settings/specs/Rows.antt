@@ -6,7 +6,7 @@ use Rattle.std.specs.Int.Signed.{lt_z, quot_z}
 use Rattle.times.specs.Milli.{time_limit}
 use Rattle.times.specs.Grid.{grid_size}
 use Rattle.series.specs.Refusals.{refused_if, first_refusal}
-use Rattle.series.specs.declared.refusal.Checked.{Checked}
+use Rattle.series.specs.Refusals.{Checked}
 use Rattle.series.specs.declared.refusal.Refusal.TheVariants.{StepOutside, SpanOutside, WindowOutside, SettingOutside, OverPointLimit, TooManyPoints}
 use Rattle.settings.specs.declared.RollupConfig.{RollupConfig}
 use Rattle.settings.specs.declared.SettledConfig.{SettledConfig}

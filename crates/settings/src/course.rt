@@ -1,11 +1,10 @@
 // What an accepted call goes by: its output times, its window, its reach and its per-call number.
 
-ghost use Rattle.std.specs.Prelude.{◌≡◌};
+ghost use Rattle.std.specs.Prelude.{Ok, ◌≡◌};
 ghost use Rattle.settings.specs.Rows.{settled_settings};
 ghost use Rattle.settings.specs.Course.{settled_course};
 
 use crate::SettledConfig;
-use series::Checked;
 
 #[derive(Clone, Copy)]
 pub struct Course {
@@ -19,7 +18,7 @@ pub struct Course {
 
 // The course of a settled run, which is given its window and its reach.
 pub fn settled_course(sc: SettledConfig) -> Course
-    requires { settled_settings sc ≡ Checked.Accepted }
+    requires { settled_settings sc ≡ Ok tt }
     ensures { result ≡ settled_course sc }
 {
     Course {

@@ -7,7 +7,7 @@ ghost use Rattle.std.specs.Prelude.{◌≡◌};
 ghost use Rattle.times.specs.Grid.{Spans};
 ghost use Rattle.settings.specs.Rows.{outside, span_outside, setting_outside, over_point_limit, row11, span_checked, ranges_checked, settings_checked, settled_outside, settled_settings};
 
-use series::{Checked, Refusal};
+use series::Refusal;
 use times::TIME_LIMIT;
 
 // Times and lengths of time are milliseconds. A window of 0 stands for the step.
@@ -98,28 +98,25 @@ fn is_over_point_limit(start: i64, end: i64, step: i64, max_points: i64) -> bool
 }
 
 // Rows 6 and 7.
-fn check_span(start: i64, end: i64, step: i64) -> Checked
+fn check_span(start: i64, end: i64, step: i64) -> Result<(), Refusal>
     ensures { result ≡ span_checked start end step }
 {
     if is_outside(1, TIME_LIMIT, step) {
-        return Checked::Refused(Refusal::StepOutside);
+        return Err(Refusal::StepOutside);
     }
     if is_span_outside(start, end) {
-        return Checked::Refused(Refusal::SpanOutside);
+        return Err(Refusal::SpanOutside);
     }
-    Checked::Accepted
+    Ok(())
 }
 
 // Rows 6 to 9.
-fn check_ranges(rc: RollupConfig) -> Checked
+fn check_ranges(rc: RollupConfig) -> Result<(), Refusal>
     ensures { result ≡ ranges_checked rc }
 {
-    let span = check_span(rc.start, rc.end, rc.step);
-    if let Checked::Refused(r) = span {
-        return Checked::Refused(r);
-    }
+    check_span(rc.start, rc.end, rc.step)?;
     if is_outside(0, TIME_LIMIT, rc.window) {
-        return Checked::Refused(Refusal::WindowOutside);
+        return Err(Refusal::WindowOutside);
     }
     if is_setting_outside(
         rc.lookback_delta,
@@ -127,32 +124,29 @@ fn check_ranges(rc: RollupConfig) -> Checked
         rc.max_points_per_series,
         rc.samples_scanned_per_call,
     ) {
-        return Checked::Refused(Refusal::SettingOutside);
+        return Err(Refusal::SettingOutside);
     }
-    Checked::Accepted
+    Ok(())
 }
 
 // Row 11.
-fn check_points(start: i64, end: i64, step: i64) -> Checked
+fn check_points(start: i64, end: i64, step: i64) -> Result<(), Refusal>
     requires { Spans start end step }
     ensures { result ≡ row11 start end step }
 {
     if MAX_POINTS < times::grid::points(start, end, step) {
-        return Checked::Refused(Refusal::TooManyPoints);
+        return Err(Refusal::TooManyPoints);
     }
-    Checked::Accepted
+    Ok(())
 }
 
 // Rows 6 to 11.
-pub fn check_settings(rc: RollupConfig) -> Checked
+pub fn check_settings(rc: RollupConfig) -> Result<(), Refusal>
     ensures { result ≡ settings_checked rc }
 {
-    let ranges = check_ranges(rc);
-    if let Checked::Refused(r) = ranges {
-        return Checked::Refused(r);
-    }
+    check_ranges(rc)?;
     if is_over_point_limit(rc.start, rc.end, rc.step, rc.max_points_per_series) {
-        return Checked::Refused(Refusal::OverPointLimit);
+        return Err(Refusal::OverPointLimit);
     }
     check_points(rc.start, rc.end, rc.step)
 }
@@ -168,18 +162,15 @@ fn is_settled_outside(window: i64, reach: i64) -> bool
 }
 
 // Rows 6 to 11 of a settled run: its own row 8, of row 9 the per-call number, and no row 10.
-pub fn check_settled(sc: SettledConfig) -> Checked
+pub fn check_settled(sc: SettledConfig) -> Result<(), Refusal>
     ensures { result ≡ settled_settings sc }
 {
-    let span = check_span(sc.start, sc.end, sc.step);
-    if let Checked::Refused(r) = span {
-        return Checked::Refused(r);
-    }
+    check_span(sc.start, sc.end, sc.step)?;
     if is_settled_outside(sc.window, sc.reach) {
-        return Checked::Refused(Refusal::WindowOutside);
+        return Err(Refusal::WindowOutside);
     }
     if MAX_PER_CALL < sc.samples_scanned_per_call {
-        return Checked::Refused(Refusal::SettingOutside);
+        return Err(Refusal::SettingOutside);
     }
     check_points(sc.start, sc.end, sc.step)
 }

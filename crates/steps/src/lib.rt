@@ -13,7 +13,7 @@ ghost use Rattle.times.specs.Leading.{leading};
 ghost use Rattle.series.specs.Rows.{time_inside, finite_bits};
 ghost use Rattle.steps.specs.Steps.{begun, corrected, counter_after, counter_after_once, grown, lifted, resets, resets_once, deltas, sloped, derivs, whole_seconds, intervals};
 
-pub use choice::{Step, step_of};
+pub use choice::step_of;
 
 // What is done to a series' values before they are rolled up.
 #[derive(Clone, Copy)]

@@ -9,13 +9,13 @@ use lib.ListN.{length}
 use Rattle.times.specs.Leading.{leading}
 use Rattle.steps.specs.Steps.{prepared_of}
 use Rattle.series.specs.Rows.{finite_bits, series_checked}
-use Rattle.series.specs.declared.refusal.Checked.TheVariants.{Accepted}
+use Rattle.std.specs.Prelude.{Ok}
 use Rattle.series.proofs.Accepted.{accepted-series}
 use Rattle.prepare.proofs.Patterns.{patterns-floats}
 use Rattle.prepare.proofs.apply.Goals as goal
 
 -- what a step over the values alone asks for
-values-finite : (ts : List ℤ) (vs prepared : List ℕ) → series_checked ts vs ≡ Accepted → length prepared ≡ length vs → (length prepared ≡ length vs) × (leading finite_bits vs ≡ length vs)
+values-finite : (ts : List ℤ) (vs prepared : List ℕ) → series_checked ts vs ≡ Ok tt → length prepared ≡ length vs → (length prepared ≡ length vs) × (leading finite_bits vs ≡ length vs)
 values-finite ts vs prepared h e = (e, (accepted-series ts vs h).all_finite)
 
 pub remove_counter_resets-requires : goal.remove_counter_resets-requires

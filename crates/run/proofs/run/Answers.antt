@@ -10,7 +10,7 @@ use Rattle.settings.specs.declared.course.Course.{Course}
 use Rattle.settings.proofs.Passed.{last_row}
 use Rattle.series.specs.Answers.{refuses, reply_of}
 use Rattle.series.specs.Rows.{row1, row5, series_checked, times_checked}
-use Rattle.series.specs.declared.refusal.Checked.TheVariants.{Accepted}
+use Rattle.std.specs.Prelude.{Ok}
 use Rattle.series.proofs.Accepted.{all-accept}
 use Rattle.times.specs.Grid.{grid_size}
 use Rattle.times.proofs.Milli.{within-fits}
@@ -19,7 +19,7 @@ use Rattle.run.specs.Run.{executed, lent, lent_checked, run_checked, run_course,
 use Rattle.run.proofs.Passed.{goes_by, run_sound, same-course, settling-accepted, settling_refused}
 use Rattle.run.proofs.run.Goals as goal
 
-times-ok : (ts : List ℤ) (vs : List ℕ) → series_checked ts vs ≡ Accepted → times_checked ts ≡ Accepted
+times-ok : (ts : List ℤ) (vs : List ℕ) → series_checked ts vs ≡ Ok tt → times_checked ts ≡ Ok tt
 unfolding series_checked
 times-ok ts vs e = (all-accept (row1 ts vs ∷ times_checked ts ∷ row5 vs ∷ []) e).1.0
 
@@ -27,7 +27,7 @@ abbrev back : ℤ → ℤ
 back z = to_z w64 (of_z w64 z)
 
 -- an accepted call's settings go by what they settle to
-module _ (us : List ℤ) (rc : RollupConfig) (times : times_checked us ≡ Accepted) (settings : settings_checked rc ≡ Accepted) where
+module _ (us : List ℤ) (rc : RollupConfig) (times : times_checked us ≡ Ok tt) (settings : settings_checked rc ≡ Ok tt) where
   allowed : Allowed (run_course us rc)
   allowed = goes_by (run_sound us rc times settings)
 
@@ -55,14 +55,14 @@ returns-in_default-settled c =
     let vs = c.args.values.now in
     let rc = c.args.rc in
     let l = lent c.args.dst_values.now c.args.prepared.now c.args.work.now in
-    let series-ok : series_checked ts vs ≡ Accepted = sym c.check_series-checked.ensures ∙ c.in_default.is in
+    let series-ok : series_checked ts vs ≡ Ok tt = sym c.check_series-checked.ensures ∙ c.in_default.is in
     let said : refuses x ≡ reply_of (settings_checked rc) (settlement ts rc) = rw c.in_default-settled.is at c.settle_settings-settled.ensures in
     rw (series-ok, c.refused.ensures x c.in_default-settled.is)
     (settling_refused (settings_checked rc) (settlement ts rc) x (lent_checked (length vs) (grid_size rc.start rc.end rc.step) l ∷ [])
     (run_plan ts vs c.args.pre c.args.handler rc) l said)
 
 -- what the settled answer says of the settings
-settled-ok : (us : List ℤ) (rc : RollupConfig) (w r : ℤ) (n : ℕ) → settled_reply (SettledTo w r n) ≡ reply_of (settings_checked rc) (settlement us rc) → (settings_checked rc ≡ Accepted) × (w ≡ (settlement us rc).window) × (r ≡ (settlement us rc).reach) × (n ≡ (settlement us rc).points)
+settled-ok : (us : List ℤ) (rc : RollupConfig) (w r : ℤ) (n : ℕ) → settled_reply (SettledTo w r n) ≡ reply_of (settings_checked rc) (settlement us rc) → (settings_checked rc ≡ Ok tt) × (w ≡ (settlement us rc).window) × (r ≡ (settlement us rc).reach) × (n ≡ (settlement us rc).points)
 settled-ok us rc w r n e = settling-accepted (settings_checked rc) (settlement us rc) w r n e
 
 pub execute_within-requires-clause-allowed : goal.execute_within-requires-clause-allowed
@@ -70,7 +70,7 @@ execute_within-requires-clause-allowed c =
     let us = c.args.timestamps.now in
     let rc = c.args.rc in
     let times = times-ok us c.args.values.now (sym c.check_series-checked.ensures ∙ c.in_default.is) in
-    let s = settled-ok us rc c.in-Accepted.window c.in-Accepted.reach c.in-Accepted.points (rw c.in-Accepted.is at c.settle_settings-settled.ensures) in
+    let s = settled-ok us rc c.in-(Ok tt).window c.in-(Ok tt).reach c.in-(Ok tt).points (rw c.in-(Ok tt).is at c.settle_settings-settled.ensures) in
     rw (course-is us rc times s.0 _ _ _ s.1 s.2 s.3) (allowed us rc times s.0)
 
 pub returns : goal.returns
@@ -80,8 +80,8 @@ returns c =
     let vs = c.args.values.now in
     let rc = c.args.rc in
     let l = lent c.args.dst_values.now c.args.prepared.now c.args.work.now in
-    let series-ok : series_checked us vs ≡ Accepted = sym c.check_series-checked.ensures ∙ c.in_default.is in
+    let series-ok : series_checked us vs ≡ Ok tt = sym c.check_series-checked.ensures ∙ c.in_default.is in
     let times = times-ok us vs series-ok in
-    let s = settled-ok us rc c.in-Accepted.window c.in-Accepted.reach c.in-Accepted.points (rw c.in-Accepted.is at c.settle_settings-settled.ensures) in
+    let s = settled-ok us rc c.in-(Ok tt).window c.in-(Ok tt).reach c.in-(Ok tt).points (rw c.in-(Ok tt).is at c.settle_settings-settled.ensures) in
     rw (series-ok, s.0, last_row (lent_checked (length vs) (run_course us rc).points l))
     (c.execute_within.ensures ∙ ap (λ (go : Course). executed us vs c.args.pre c.args.handler go l) (course-is us rc times s.0 _ _ _ s.1 s.2 s.3))

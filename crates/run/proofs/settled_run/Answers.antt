@@ -5,7 +5,7 @@ use Rattle.settings.specs.Course.{settled_course}
 use Rattle.settings.specs.Rows.{settled_settings}
 use Rattle.settings.proofs.Passed.{last_row}
 use Rattle.series.specs.Rows.{series_checked}
-use Rattle.series.specs.declared.refusal.Checked.TheVariants.{Accepted}
+use Rattle.std.specs.Prelude.{Ok}
 use Rattle.run.specs.Run.{lent, lent_checked, settled_checked}
 use Rattle.run.proofs.Passed.{goes_by, settled-sound}
 use Rattle.run.proofs.settled_run.Goals as goal
@@ -17,7 +17,7 @@ returns-in-Refused c = rw (← c.check_series-checked.ensures, c.in-Refused.is)
 pub returns-in-Refused-settings : goal.returns-in-Refused-settings
 unfolding settled_checked
 returns-in-Refused-settings c =
-    let series-ok : series_checked c.args.timestamps.now c.args.values.now ≡ Accepted = sym c.check_series-checked.ensures ∙ c.in_default.is in
+    let series-ok : series_checked c.args.timestamps.now c.args.values.now ≡ Ok tt = sym c.check_series-checked.ensures ∙ c.in_default.is in
     rw (series-ok, ← c.check_settled-settings.ensures, c.in-Refused-settings.is)
 
 pub execute_within-requires-clause-allowed : goal.execute_within-requires-clause-allowed
@@ -27,8 +27,8 @@ execute_within-requires-clause-allowed c =
 pub returns : goal.returns
 unfolding settled_checked
 returns c =
-    let series-ok : series_checked c.args.timestamps.now c.args.values.now ≡ Accepted = sym c.check_series-checked.ensures ∙ c.in_default.is in
-    let settings-ok : settled_settings c.args.sc ≡ Accepted = sym c.check_settled-settings.ensures ∙ c.in_default-settings.is in
+    let series-ok : series_checked c.args.timestamps.now c.args.values.now ≡ Ok tt = sym c.check_series-checked.ensures ∙ c.in_default.is in
+    let settings-ok : settled_settings c.args.sc ≡ Ok tt = sym c.check_settled-settings.ensures ∙ c.in_default-settings.is in
     let l = lent c.args.dst_values.now c.args.prepared.now c.args.work.now in
     rw (series-ok, settings-ok, last_row (lent_checked (length c.args.values.now) (settled_course c.args.sc).points l))
     (rw c.settled_course.ensures at c.execute_within.ensures)

@@ -10,7 +10,7 @@ use mir.Val.{SFits}
 use Rattle.times.proofs.Milli.{stored_and_read}
 use mir.Facts.{to_z-of_z}
 use Rattle.times.specs.Milli.{time_limit}
-use Rattle.series.specs.declared.refusal.Checked.{Checked}
+use Rattle.series.specs.Refusals.{Checked}
 use Rattle.settings.specs.Rows.{setting_outside, span_checked}
 use Rattle.settings.proofs.Passed.{two-rows, told}
 use Rattle.settings.proofs.check_ranges.Goals as goal

@@ -5,14 +5,14 @@ use mathlib.Core.Bool.{Bool}
 use mir.Facts.{to_z-of_z}
 use Rattle.times.specs.Grid.{Spans}
 use Rattle.times.proofs.Milli.{stored_and_read, within-fits}
-use Rattle.series.specs.declared.refusal.Checked.TheVariants.{Accepted}
+use Rattle.std.specs.Prelude.{Ok}
 use Rattle.settings.specs.declared.RollupConfig.{RollupConfig}
 use Rattle.settings.specs.Rows.{over_point_limit, ranges_checked, row11, settings_checked}
 use Rattle.settings.proofs.Passed.{Passed, last_row, ranges-passed, up_to_fits}
 use Rattle.settings.proofs.check_settings.Goals as goal
 
 -- rows 6 to 9 accepted
-module _ (rc : RollupConfig) (accepted : Accepted ≡ ranges_checked rc) where
+module _ (rc : RollupConfig) (accepted : (Ok tt) ≡ ranges_checked rc) where
   passed : Passed rc
   passed = ranges-passed rc (sym accepted)
 

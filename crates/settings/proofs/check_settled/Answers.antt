@@ -10,8 +10,8 @@ use mir.Val.{SFits}
 use mir.Facts.{to_z-of_z}
 use Rattle.times.specs.Grid.{Spans}
 use Rattle.times.proofs.Milli.{stored_and_read}
-use Rattle.series.specs.declared.refusal.Checked.{Checked}
-use Rattle.series.specs.declared.refusal.Checked.TheVariants.{Accepted}
+use Rattle.series.specs.Refusals.{Checked}
+use Rattle.std.specs.Prelude.{Ok}
 use Rattle.settings.specs.Rows.{row11, settled_outside, settled_settings, span_checked}
 use Rattle.settings.proofs.Passed.{last_row, span-passed, two-rows}
 use Rattle.settings.proofs.check_settled.Goals as goal
@@ -22,7 +22,7 @@ module _ (start end step : ℤ) (f : SFits w64 start) (g : SFits w64 end) (h : S
   span e = rw (to_z-of_z f, to_z-of_z g, to_z-of_z h) at e
 
   -- rows 6 and 7 accepted
-  spans : Accepted ≡ span_checked (stored_and_read start) (stored_and_read end) (stored_and_read step) → Spans (stored_and_read start) (stored_and_read end) (stored_and_read step)
+  spans : (Ok tt) ≡ span_checked (stored_and_read start) (stored_and_read end) (stored_and_read step) → Spans (stored_and_read start) (stored_and_read end) (stored_and_read step)
   spans e = rw (to_z-of_z f, to_z-of_z g, to_z-of_z h) (span-passed start end step (sym (span e)))
 
   eleven : {r : Checked} → r ≡ row11 (stored_and_read start) (stored_and_read end) (stored_and_read step) → r ≡ row11 start end step

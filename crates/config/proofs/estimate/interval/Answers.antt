@@ -12,14 +12,14 @@ use mir.Syntax.{w64}
 use mir.Val.{SFits}
 use mir.Facts.{to_z-of_z}
 use Rattle.series.specs.Rows.{times_checked}
-use Rattle.series.specs.declared.refusal.Checked.TheVariants.{Accepted}
+use Rattle.std.specs.Prelude.{Ok}
 use Rattle.times.proofs.Milli.{within-sub, within-fits}
 use Rattle.config.specs.Estimate.{distances}
 use Rattle.config.proofs.Distances.{distance-at, within}
 use Rattle.config.proofs.estimate.interval.Goals as goal
 
 -- the time at i and the next, and their distance
-module _ (ts : List ℤ) (i : ℕ) (ok : times_checked ts ≡ Accepted) (h : i + 1 < length ts) where
+module _ (ts : List ℤ) (i : ℕ) (ok : times_checked ts ≡ Ok tt) (h : i + 1 < length ts) where
   abbrev at : ℕ → ℤ
   at k = get_or ts k (pos 0)
 

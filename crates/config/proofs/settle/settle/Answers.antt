@@ -4,7 +4,7 @@ use mathlib.Core.List.{[], ◌∷◌}
 use mathlib.Core.Path.{◌≡◌, sym, ap, ◌∙◌}
 use Rattle.series.specs.Answers.{reply_of}
 use Rattle.series.specs.Refusals.{first_refusal}
-use Rattle.series.specs.declared.refusal.Checked.{Checked}
+use Rattle.series.specs.Refusals.{Checked}
 use Rattle.settings.specs.Rows.{settings_checked}
 use Rattle.config.specs.Settle.{settlement, settle_of}
 use Rattle.settings.proofs.Passed.{last_row}

@@ -15,7 +15,7 @@ use Rattle.config.specs.Estimate.{estimate_of}
 use Rattle.config.specs.Reach.{reach_of, bounded_reach, window_of}
 use Rattle.settings.specs.Rows.{settings_checked}
 use Rattle.series.specs.Rows.{times_checked}
-use Rattle.series.specs.declared.refusal.Checked.TheVariants.{Accepted}
+use Rattle.std.specs.Prelude.{Ok}
 use Rattle.config.specs.Settle.{settled_reach_of, settled_window_of}
 use Rattle.config.proofs.Distances.{not-falling, within}
 use Rattle.config.proofs.Estimates.{estimate-small}
@@ -23,7 +23,7 @@ use Rattle.config.proofs.Limits.{reach-in, window-in}
 use Rattle.settings.proofs.Passed.{Passed, up_to_fits, castable, settings-passed}
 use Rattle.config.proofs.settle.settle_accepted.Goals as goal
 
-module _ (ts : List ℤ) (rc : RollupConfig) (settings : settings_checked rc ≡ Accepted) where
+module _ (ts : List ℤ) (rc : RollupConfig) (settings : settings_checked rc ≡ Ok tt) where
   passed : Passed rc
   passed = settings-passed rc settings
 
@@ -44,7 +44,7 @@ module _ (ts : List ℤ) (rc : RollupConfig) (settings : settings_checked rc ≡
   points-are n =
       rw (to_z-of_z (within-fits tt passed.spans.start_within), to_z-of_z (within-fits tt passed.spans.end_within), to_z-of_z (up_to_fits passed.step)) at n
 
-  module _ (times : times_checked ts ≡ Accepted) where
+  module _ (times : times_checked ts ≡ Ok tt) where
     window-fits : {w : ℕ} → w ≡ settled_window_of ts rc → SFits w64 (pos w)
     window-fits e = record { sfits = omega (arith, e, (window-in ts rc times settings).small) }
 
