@@ -42,14 +42,14 @@ pub record Passed (rc : RollupConfig) : Type 0 where
 -- ---- rows that accept
 
 pub last_row : (row : Checked) → first_refusal (row ∷ []) ≡ row
-last_row (Ok tt) = refl
-last_row (Err r) = refl
+last_row (Ok _) = refl
+last_row (Err _) = refl
 
 -- the first two of a call's rows, taken together
 pub two-rows : (a b : Checked) (rows : List Checked) → first_refusal (a ∷ b ∷ rows) ≡ first_refusal (first_refusal (a ∷ b ∷ []) ∷ rows)
-two-rows (Ok tt) (Ok tt) rows = refl
-two-rows (Ok tt) (Err r) rows = refl
-two-rows (Err r) b rows = refl
+two-rows (Ok _) (Ok _) rows = refl
+two-rows (Ok _) (Err _) rows = refl
+two-rows (Err _) b rows = refl
 
 -- a call's first two rows accept where all do
 first-two : (a b : Checked) (rows : List Checked) → first_refusal (a ∷ b ∷ rows) ≡ Ok tt → (a ≡ Ok tt) × (b ≡ Ok tt)

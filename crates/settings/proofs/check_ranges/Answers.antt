@@ -27,7 +27,7 @@ module _ (a b l : ℤ) (n : ℕ) (f : SFits w64 a) (g : SFits w64 b) (h : SFits 
 pub returns-then-is_setting_outside : goal.returns-then-is_setting_outside
 returns-then-is_setting_outside c =
     let rc = c.args.rc in
-    let passed = span rc.start rc.end rc.step (search rules) (search rules) (search rules) c.in_default.ensures in
+    let passed = span rc.start rc.end rc.step (search rules) (search rules) (search rules) (sym c.in_ok-check_span.was ∙ c.check_span.ensures) in
     let eight = told (pos 0) (pos time_limit) rc.window (search rules) c.is_outside.ensures c.if-is_outside.false in
     let last = nine rc.lookback_delta rc.min_staleness_interval rc.max_points_per_series rc.samples_scanned_per_call (search rules) (search rules) (search rules) c.is_setting_outside.ensures c.if-is_setting_outside.true in
     rw (two-rows, ← passed, eight, last)
@@ -35,7 +35,7 @@ returns-then-is_setting_outside c =
 pub returns : goal.returns
 returns c =
     let rc = c.args.rc in
-    let passed = span rc.start rc.end rc.step (search rules) (search rules) (search rules) c.in_default.ensures in
+    let passed = span rc.start rc.end rc.step (search rules) (search rules) (search rules) (sym c.in_ok-check_span.was ∙ c.check_span.ensures) in
     let eight = told (pos 0) (pos time_limit) rc.window (search rules) c.is_outside.ensures c.if-is_outside.false in
     let last = nine rc.lookback_delta rc.min_staleness_interval rc.max_points_per_series rc.samples_scanned_per_call (search rules) (search rules) (search rules) c.is_setting_outside.ensures c.if-is_setting_outside.false in
     rw (two-rows, ← passed, eight, last)

@@ -6,6 +6,7 @@ use mir.Facts.{to_z-of_z}
 use Rattle.times.specs.Grid.{Spans}
 use Rattle.times.proofs.Milli.{stored_and_read, within-fits}
 use Rattle.std.specs.Prelude.{Ok}
+use Rattle.std.proofs.lemmas.Result.{err_from_is_err_and}
 use Rattle.settings.specs.declared.RollupConfig.{RollupConfig}
 use Rattle.settings.specs.Rows.{over_point_limit, ranges_checked, row11, settings_checked}
 use Rattle.settings.proofs.Passed.{Passed, last_row, ranges-passed, up_to_fits}
@@ -27,25 +28,27 @@ module _ (rc : RollupConfig) (accepted : (Ok tt) ≡ ranges_checked rc) where
       sym (rw (to_z-of_z (within-fits tt p.start_within), to_z-of_z (within-fits tt p.end_within), to_z-of_z (within-fits tt p.step_within), to_z-of_z (up_to_fits passed.limit)) at e)
       ∙ t
 
-pub returns-in-Refused : goal.returns-in-Refused
+pub returns-in_err-check_ranges : goal.returns-in_err-check_ranges
 unfolding settings_checked
-returns-in-Refused c = rw (← c.in-Refused.ensures)
+returns-in_err-check_ranges c =
+    let p = err_from_is_err_and c.from_residual.result c.from_residual.ensures.1 in
+    rw (p.1, p.2, ← c.check_ranges.ensures, c.in_err-check_ranges.was)
 
 pub is_over_point_limit-requires : goal.is_over_point_limit-requires
-is_over_point_limit-requires c = spans c.args.rc c.in_default.ensures
+is_over_point_limit-requires c = spans c.args.rc (sym c.in_ok-check_ranges.was ∙ c.check_ranges.ensures)
 
 pub returns-then-is_over_point_limit : goal.returns-then-is_over_point_limit
 unfolding settings_checked
 returns-then-is_over_point_limit c =
-    rw (← c.in_default.ensures, ten c.args.rc c.in_default.ensures c.is_over_point_limit.ensures c.if-is_over_point_limit.true)
+    rw (← (sym c.in_ok-check_ranges.was ∙ c.check_ranges.ensures), ten c.args.rc (sym c.in_ok-check_ranges.was ∙ c.check_ranges.ensures) c.is_over_point_limit.ensures c.if-is_over_point_limit.true)
 
 pub check_points-requires : goal.check_points-requires
-check_points-requires c = spans c.args.rc c.in_default.ensures
+check_points-requires c = spans c.args.rc (sym c.in_ok-check_ranges.was ∙ c.check_ranges.ensures)
 
 pub returns : goal.returns
 unfolding settings_checked
 returns c =
     let rc = c.args.rc in
-    let p = (passed rc c.in_default.ensures).spans in
-    rw (← c.in_default.ensures, ten rc c.in_default.ensures c.is_over_point_limit.ensures c.if-is_over_point_limit.false, last_row (row11 rc.start rc.end rc.step))
+    let p = (passed rc (sym c.in_ok-check_ranges.was ∙ c.check_ranges.ensures)).spans in
+    rw (← (sym c.in_ok-check_ranges.was ∙ c.check_ranges.ensures), ten rc (sym c.in_ok-check_ranges.was ∙ c.check_ranges.ensures) c.is_over_point_limit.ensures c.if-is_over_point_limit.false, last_row (row11 rc.start rc.end rc.step))
     (rw (to_z-of_z (within-fits tt p.start_within), to_z-of_z (within-fits tt p.end_within), to_z-of_z (within-fits tt p.step_within)) at c.check_points.ensures)
