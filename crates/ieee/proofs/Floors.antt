@@ -1,18 +1,18 @@
--- `floor_of` by units: a value is whole where its units are a multiple of 2 ^ 1074, as they are from 2 ^ 52 on, and else the floor goes by the whole part.
--- Below 2 ^ 52 the floor is found by a comparison with the truncated value. Assumes nothing.
-use Rattle.std.proofs.Common.{◌≡◌, ℕ, zero, suc, ◌+◌, ◌-◌, ◌*◌, ◌/◌, ◌%◌, ◌^◌, ◌<◌, ◌≤◌, min, Bool, true, false, cond, T, eqb, ltb, ◌⊎◌, ℤ, pos, negsuc, ◌-ℤ◌, neg_ℤ, sym, refl, ap, ◌∙◌, subst, inl, inr, suc-le-suc, zero-le, add-zero, mul-le-mul_left, div-add-mod', le-div_iff_mul-le, mul_right_comm, add_left_cancel, arith, pow_pos, pow_mono, le-ltb, lt-ltb, eq-eqb}
-use native.Mathlib.Nat.{mod-one, eq_of_mul-eq-mul_right}
-use lib.IntN.{ -ℤ_one}
-use lib.Ieee.{Float, nan, inf, fin, binary64, up, down, fits, is_nan, lt, eq, of_int, to_signed, in_float}
-use lib.Ieee.Fits.{down_pos, of_int-fits}
+-- `floor_of` by units: a value is whole where its units are a multiple of 2 ^ 1074, and else the floor goes by the whole part.
+-- And std's floor is `floor_of`. Assumes nothing.
+use Rattle.std.proofs.Common.{◌≡◌, ℕ, suc, ◌+◌, ◌-◌, ◌*◌, ◌/◌, ◌%◌, ◌^◌, ◌<◌, Bool, true, false, cond, T, eqb, ℤ, sym, refl, ap, ◌∙◌, add-zero, div-add-mod', mul_right_comm, add_left_cancel, arith, pow_pos, lit<, eqb-true}
+use native.Mathlib.Nat.{add-mul, mod-lt, eq_of_mul-eq-mul_right, div-eq_of_lt-le}
+use lib.Ieee.{Float, nan, inf, fin, binary64, up, down, fits, of_int, round}
+use lib.Ieee.Fits.{down_pos}
 use borrow.Author.Tests.{eqb-false}
+use Rattle.std.specs.Float.{floor, round_with}
 use Rattle.ieee.specs.Value.{negative, floor_of, whole_below}
-use Rattle.ieee.proofs.Rank.{most, units_of, placed, rank}
-use Rattle.ieee.proofs.Patterns.{nan-or-number}
-use Rattle.ieee.proofs.Units.{held, units-fin, units-le}
-use Rattle.ieee.proofs.Order.{same-eqb, lt-rank, eq-rank}
-use Rattle.ieee.proofs.Whole.{part_of, signed_part, reaches-up, reaches-down}
-use Rattle.ieee.proofs.Exact.{signed, signed-castable, signed-rank, signed-number}
+use Rattle.ieee.proofs.Rank.{units_of}
+use Rattle.ieee.proofs.Tests.{by-test}
+use Rattle.ieee.proofs.Units.{held, units-fin}
+use Rattle.ieee.proofs.Order.{same-eqb}
+use Rattle.ieee.proofs.Unrounded.{round-value}
+use Rattle.ieee.proofs.Whole.{part_of}
 
 -- ---- whole, by units: equal fractions leave no rest together
 
@@ -38,126 +38,37 @@ floor-units nan f = refl
 floor-units (inf s) f = refl
 floor-units (fin s m e) f = rw (same_rest s m e f, part_of s m e f)
 
--- ---- from 2 ^ 52 on
+-- ---- std's floor: the quotient rounded down, and rounded up where the value is negative
 
--- of at most 53 digits, none is left for a fraction
-no_fraction : (m : ℕ) (e : ℤ) → m < 2 ^ 53 → 2 ^ 52 ≤ m * up e / down e → m * up e % down e ≡ 0
-no_fraction m (pos a) h k = mod-one (m * 2 ^ a)
-no_fraction m (negsuc a) h k =
-    let digits : 2 ^ 52 * 2 ^ suc a ≤ m * 1 = (le-div_iff_mul-le (pow_pos (suc a))).0 k in
-    let more : 2 ^ 52 * 2 ≤ 2 ^ 52 * 2 ^ suc a = mul-le-mul_left (2 ^ 52) (pow_mono (suc-le-suc zero-le)) in
-    absurd (omega arith)
+quotient : (a d : ℕ) → a / d * d + a % d ≡ a
+quotient a d = div-add-mod' a d
 
-no-rest-from : (x : Float) → T (fits binary64 x) → 2 ^ 52 ≤ units_of x / 2 ^ 1074 → eqb (units_of x % 2 ^ 1074) 0 ≡ true
-unfolding units_of
-no-rest-from nan f h = refl
-no-rest-from (inf s) f h = refl
-no-rest-from (fin s m e) f h = sym (same_rest s m e f) ∙ eq-eqb _ 0 (no_fraction m e (held s m e f).short (rw (part_of s m e f) h))
+-- where nothing is left, the value is its quotient
+whole_value : (s : Bool) (m : ℕ) (e : ℤ) → T (fits binary64 (fin s m e)) → m * up e % down e ≡ 0 → round binary64 s (m * up e / down e) 1 ≡ fin s m e
+whole_value s m e f h =
+    let left : m * up e * 1 ≡ m * up e / down e * down e = omega (arith, quotient (m * up e) (down e), h) in
+    round-value (fin s m e) s (m * up e / down e) 1 f (lit< tt) (refl, left)
 
-floor-large : (x : Float) → T (fits binary64 x) → (is_nan x ≡ false → 2 ^ 52 ≤ units_of x / 2 ^ 1074) → x ≡ floor_of x
-unfolding floor_of
-floor-large x f h = go (nan-or-number x)
-  where
-    go : (x ≡ nan) ⊎ (is_nan x ≡ false) → x ≡ floor_of x
-    go (inl e) = rw e
-    go (inr p) = sym (floor-units x f ∙ rw (no-rest-from x f (h p)))
+up_whole : (a d : ℕ) → 0 < d → a % d ≡ 0 → (a + d - 1) / d ≡ a / d
+up_whole a d D h = div-eq_of_lt-le d (omega (arith, quotient a d, h)) (omega (arith, quotient a d, h, add-mul (a / d) 1 d))
 
-pub floor-up : (x : Float) → T (fits binary64 x) → lt x (fin false 1 (pos 52)) ≡ false → x ≡ floor_of x
-unfolding fits
-floor-up x f h = floor-large x f (λ p. (reaches-up 52 x f p tt h).1)
+up_rest : (a d : ℕ) → 0 < d → 0 < a % d → (a + d - 1) / d ≡ suc (a / d)
+up_rest a d D h =
+    let r : a % d < d = mod-lt a D in
+    div-eq_of_lt-le d (omega (arith, quotient a d, add-mul (a / d) 1 d)) (omega (arith, quotient a d, add-mul (a / d) 2 d))
 
-pub floor-down : (x : Float) → T (fits binary64 x) → lt (fin true 1 (pos 52)) x ≡ false → x ≡ floor_of x
-unfolding fits
-floor-down x f h = floor-large x f (λ p. (reaches-down 52 x f p tt h).1)
+some : (n : ℕ) → eqb n 0 ≡ false → 0 < n
+some n h = let e : n ≡ 0 → ⊥ = eqb-false n 0 h in omega arith
 
--- ---- below 2 ^ 52: x beside its truncated value w
-
-same_place : (c u v : ℕ) → u ≤ c → v ≤ c → (s : Bool) → eqb (placed c c s u) (placed c c s v) ≡ eqb u v
-same_place c u v a b false = same-eqb (c + u) (c + v) u v (λ h. omega arith) (λ h. omega arith)
-same_place c u v a b true = same-eqb (c - u) (c - v) u v (λ h. omega arith) (λ h. omega arith)
-
--- with a rest r above a, only a negative number is below its truncated value
-cut-above : (c a r : ℕ) → a + r ≤ c → 0 < r → (s : Bool) → ltb (placed c c s (a + r)) (placed c c s a) ≡ s
-cut-above c a r h p false = le-ltb (c + (a + r)) (c + a) (omega arith)
-cut-above c a r h p true = lt-ltb (c - (a + r)) (c - a) (omega arith)
-
-rest-eqb : (a r : ℕ) → eqb a (a + r) ≡ eqb r 0
-rest-eqb a r = same-eqb a (a + r) r 0 (λ h. omega arith) (λ h. omega arith)
-
-uncapped : (s : Bool) (n : ℕ) → n < 2 ^ 52 → cond s (neg_ℤ (pos (min n (2 ^ 63)))) (pos (min n (2 ^ 63 - 1))) ≡ signed s n
-uncapped true n h = let e : min n (2 ^ 63) ≡ n = omega arith in rw e
-uncapped false n h = let e : min n (2 ^ 63 - 1) ≡ n = omega arith in rw e
-
-exact : (n : ℕ) → n < 2 ^ 52 → n ≤ 2 ^ 53
-exact n h = omega arith
-
-minus_one : (n : ℕ) → neg_ℤ (pos n) -ℤ pos 1 ≡ negsuc n
-minus_one zero = refl
-minus_one (suc n) = -ℤ_one (negsuc n)
-
-first-le : (a r c : ℕ) → a + r ≤ c → a ≤ c
-first-le a r c h = omega arith
-
-above_zero : (r : ℕ) → eqb r 0 ≡ false → 0 < r
-above_zero r h = let n : r ≡ 0 → ⊥ = eqb-false r 0 h in omega arith
-
--- What the truncated value z says of x's floor. `part` is x's whole part.
-pub record Truncated (x : Float) (z : ℤ) : Type 0 where
-  pub part : ℕ
-  pub small : part < 2 ^ 52
-  pub castable : T (in_float binary64 z)
-  pub whole : eq (of_int binary64 z) x ≡ true → x ≡ floor_of x
-  pub above : eq (of_int binary64 z) x ≡ false → lt x (of_int binary64 z) ≡ false → of_int binary64 z ≡ floor_of x
-  pub one_less : eq (of_int binary64 z) x ≡ false → lt x (of_int binary64 z) ≡ true → z -ℤ pos 1 ≡ negsuc part
-  pub below : eq (of_int binary64 z) x ≡ false → lt x (of_int binary64 z) ≡ true → of_int binary64 (negsuc part) ≡ floor_of x
-
--- q is the whole part, r what is left of x beside it, in units, and w the truncated value
-module _ (x : Float) (f : T (fits binary64 x)) (p : is_nan x ≡ false) (small : units_of x / 2 ^ 1074 < 2 ^ 52) (z : ℤ) (t : z ≡ to_signed 63 x) where
-  abbrev q : ℕ
-  q = units_of x / 2 ^ 1074
-
-  abbrev r : ℕ
-  r = units_of x % 2 ^ 1074
-
-  abbrev w : Float
-  w = of_int binary64 z
-
-  z-is : z ≡ signed (negative x) q
-  z-is = t ∙ signed_part x f ∙ uncapped (negative x) q small
-
-  number : is_nan w ≡ false
-  number = rw z-is (signed-number (negative x) q (exact q small))
-
-  w-rank : rank w ≡ placed most most (negative x) (q * 2 ^ 1074)
-  w-rank = ap (λ (k : ℤ). rank (of_int binary64 k)) z-is ∙ signed-rank (negative x) q (exact q small)
-
-  x-rank : rank x ≡ placed most most (negative x) (q * 2 ^ 1074 + r)
-  unfolding rank
-  x-rank = ap (placed most most (negative x)) (sym (div-add-mod' (units_of x) (2 ^ 1074)))
-
-  room : q * 2 ^ 1074 + r ≤ most
-  room = subst (λ (n : ℕ). n ≤ most) (sym (div-add-mod' (units_of x) (2 ^ 1074))) (units-le x f)
-
-  eq-cut : eq w x ≡ eqb r 0
-  eq-cut =
-      eq-rank w x (of_int-fits binary64 z) f number p
-      ∙ rw (w-rank, x-rank) (same_place most (q * 2 ^ 1074) (q * 2 ^ 1074 + r) (first-le (q * 2 ^ 1074) r most room) room (negative x) ∙ rest-eqb (q * 2 ^ 1074) r)
-
-  rest : eq w x ≡ false → eqb r 0 ≡ false
-  rest h = sym eq-cut ∙ h
-
-  lt-cut : eq w x ≡ false → lt x w ≡ negative x
-  lt-cut h = lt-rank x w f (of_int-fits binary64 z) p number ∙ rw (w-rank, x-rank) (cut-above most (q * 2 ^ 1074) r room (above_zero r (rest h)) (negative x))
-
-  pub truncated : Truncated x z
-  unfolding whole_below
-  truncated =
-      record {
-        part = q;
-        small = small;
-        castable = rw z-is (signed-castable (negative x) q (exact q small));
-        whole = λ h. sym (floor-units x f ∙ rw (sym eq-cut ∙ h));
-        above = λ h l. sym (floor-units x f ∙ rw (rest h, z-is, sym (lt-cut h) ∙ l));
-        one_less = λ h l. rw (z-is, sym (lt-cut h) ∙ l) (minus_one q);
-        below = λ h l. sym (floor-units x f ∙ rw (rest h, sym (lt-cut h) ∙ l));
-      }
+pub floor-is : (x : Float) → T (fits binary64 x) → floor binary64 x ≡ floor_of x
+unfolding floor_of whole_below round_with of_int
+floor-is nan f = refl
+floor-is (inf s) f = refl
+floor-is (fin false m e) f =
+    by-test (eqb (m * up e % down e) 0)
+    (λ h. rw h (whole_value false m e f (eqb-true _ 0 h)))
+    (λ h. rw h refl)
+floor-is (fin true m e) f =
+    by-test (eqb (m * up e % down e) 0)
+    (λ h. rw h (ap (λ (n : ℕ). round binary64 true n 1) (up_whole (m * up e) (down e) (down_pos e) (eqb-true _ 0 h)) ∙ whole_value true m e f (eqb-true _ 0 h)))
+    (λ h. rw h (ap (λ (n : ℕ). round binary64 true n 1) (up_rest (m * up e) (down e) (down_pos e) (some _ h))))

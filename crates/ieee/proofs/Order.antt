@@ -206,14 +206,6 @@ pub lt-is-le : (x y : Float) → lt x y ≡ true → le x y ≡ true
 unfolding le
 lt-is-le x y h = rw h
 
-pub not-le-not-lt : (x y : Float) → le x y ≡ false → lt x y ≡ false
-unfolding le
-not-le-not-lt x y h = split (lt x y) h
-  where
-    split : (t : Bool) → (t || eq x y) ≡ false → t ≡ false
-    split true e = e
-    split false e = refl
-
 pub le_not_lt : (x y : Float) → T (fits binary64 x) → T (fits binary64 y) → le x y ≡ true → lt y x ≡ false
 le_not_lt x y f g h =
     let n = le-numbers x y h in

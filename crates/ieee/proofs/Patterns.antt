@@ -1,9 +1,8 @@
 -- What a bit pattern of binary64 says of the value it stands for: whether it is NaN, whether it is finite, and that the pattern without its
--- highest bit is the value without its sign. Beside it, that only NaN differs from itself. Assumes nothing.
+-- highest bit is the value without its sign. Beside it, that each value but NaN equals itself. Assumes nothing.
 use Rattle.std.proofs.Common.{◌≡◌, ℕ, zero, suc, ◌+◌, ◌*◌, ◌/◌, ◌%◌, ◌^◌, ◌<◌, Bool, true, false, cond, not, eqb, ltb, leb, ◌⊎◌, sym, refl, ap, ◌∙◌, inl, inr, mod-lt, mod-eq_of_lt, arith, pow_pos, ltb-false, ltb-true, eq-eqb, ne_eqb}
-use mathlib.Core.Bool.{not-not}
 use lib.Dec.{eqb_refl}
-use lib.Ieee.{Float, nan, inf, fin, binary64, up, down, eq, ne, odd, is_nan, of_fields, of_bits}
+use lib.Ieee.{Float, nan, inf, fin, binary64, up, down, eq, odd, is_nan, of_fields, of_bits}
 use lib.Ieee.Bits.{is_true}
 use lib.Ieee.Scale.{finite}
 use borrow.Author.Tests.{lt-leb}
@@ -16,10 +15,6 @@ same-if-number (inf true) = refl
 same-if-number (inf false) = refl
 same-if-number (fin true m e) = rw (is_true (eqb (m * up e * down e) (m * up e * down e)) (eqb_refl (m * up e * down e)))
 same-if-number (fin false m e) = rw (is_true (eqb (m * up e * down e) (m * up e * down e)) (eqb_refl (m * up e * down e)))
-
-pub differs_if_nan : (x : Float) → ne x x ≡ is_nan x
-unfolding ne
-differs_if_nan x = ap not (same-if-number x) ∙ not-not (is_nan x)
 
 pub nan_is : (x : Float) → is_nan x ≡ true → x ≡ nan
 unfolding is_nan

@@ -3,12 +3,9 @@
 use Rattle.std.proofs.Common.{◌≡◌, sym, ◌∙◌}
 use lib.Ieee.{nan}
 use Rattle.ieee.specs.Value.{abs_of}
-use Rattle.ieee.proofs.Patterns.{differs_if_nan, nan_is}
+use Rattle.ieee.proofs.Patterns.{nan_is}
 use Rattle.ieee.proofs.abs.Goals as goal
 
-pub magnitude-requires : goal.magnitude-requires
-magnitude-requires c = sym (differs_if_nan c.args.x) ∙ c.if-x.false
-
-pub returns-then-x : goal.returns-then-x
+pub returns-then-is_nan : goal.returns-then-is_nan
 unfolding abs_of
-returns-then-x c = let e : c.args.x ≡ nan = nan_is _ (sym (differs_if_nan c.args.x) ∙ c.if-x.true) in rw e
+returns-then-is_nan c = let e : c.args.x ≡ nan = nan_is _ (sym c.is_nan.ensures.value ∙ c.if-is_nan.true) in rw e

@@ -1,9 +1,9 @@
--- `ieee::nan` meets its contract: 0.0 / 0.0 is NaN.
+-- `ieee::nan` meets its contract: the constant's pattern is a NaN's.
 -- Assumes nothing.
 use Rattle.std.proofs.Common.{refl}
-use lib.Ieee.{div, of_bits}
+use lib.Ieee.{of_bits}
 use Rattle.ieee.proofs.nan.Goals as goal
 
 pub returns : goal.returns
-unfolding div of_bits
+unfolding of_bits
 returns c = refl
