@@ -10,7 +10,7 @@ use lib.Dec.{ltb}
 use lib.IntN.{ℤ}
 use lib.ListN.{length}
 use Rattle.times.specs.Leading.{leading, leading_run}
-use Rattle.series.specs.Answers.{checked_reply}
+use Rattle.series.specs.Answers.{reply}
 use Rattle.series.specs.Refusals.{first_refusal, refused_if, number_and_index}
 use Rattle.series.specs.Rows.{max_readings, rises, row2, row3, row4, time_inside, times_checked}
 use Rattle.series.specs.declared.refusal.Refusal.{Refusal}
@@ -21,8 +21,8 @@ use Rattle.series.proofs.Accepted.{all-accept, fails}
 use Rattle.crossings.specs.Nearest.{asked_checked, row3_asked}
 
 passed_over : (a b d : Checked) → first_refusal (a ∷ b ∷ d ∷ []) ≡ first_refusal (a ∷ b ∷ (Ok tt) ∷ d ∷ [])
-passed_over (Ok tt) (Ok tt) d = refl
-passed_over (Ok tt) (Err r) d = refl
+passed_over (Ok s) (Ok t) d = refl
+passed_over (Ok s) (Err r) d = refl
 passed_over (Err r) b d = refl
 
 -- an asked time inside the limits
@@ -41,13 +41,13 @@ module _ (x y z : Bool) (i j : ℕ) where
 early : (x y z : Bool) (i j : ℕ) (r : Refusal) → without x y z i j ≡ Err r → (number_and_index r).0 < 4 → Err r ≡ with x y z i j
 early true y z i j r e h = sym e
 early false true z i j r e h = sym e
-early false false true i j r e h = absurd (let four : 4 ≡ (number_and_index r).0 = ap (λ (c : Checked). (checked_reply c).number) e in omega arith)
+early false false true i j r e h = absurd (let four : 4 ≡ (number_and_index r).0 = ap (λ (c : Checked). (reply c).number) e in omega arith)
 early false false false i j r e h = absurd (let clash : ◌≡◌ {A = ℕ} 0 1 = cc in omega arith)
 
 -- row 4 comes after it
 late : (x y z : Bool) (i j : ℕ) (r : Refusal) → without x y z i j ≡ Err r → 4 ≤ (number_and_index r).0 → Err (TimeOutside 0) ≡ with x y z i j
-late true y z i j r e h = absurd (let two : 2 ≡ (number_and_index r).0 = ap (λ (c : Checked). (checked_reply c).number) e in omega arith)
-late false true z i j r e h = absurd (let three : 3 ≡ (number_and_index r).0 = ap (λ (c : Checked). (checked_reply c).number) e in omega arith)
+late true y z i j r e h = absurd (let two : 2 ≡ (number_and_index r).0 = ap (λ (c : Checked). (reply c).number) e in omega arith)
+late false true z i j r e h = absurd (let three : 3 ≡ (number_and_index r).0 = ap (λ (c : Checked). (reply c).number) e in omega arith)
 late false false z i j r e h = refl
 
 alone : (x y z : Bool) (i j : ℕ) → without x y z i j ≡ Ok tt → Err (TimeOutside 0) ≡ with x y z i j

@@ -3,10 +3,10 @@
 use Prim.Native.Nat.{ℕ, zero, suc, ◌≤◌, ◌<◌}
 use mathlib.Core.Bool.{true, false, false≢true}
 use mathlib.Core.List.{List, [], ◌∷◌}
-use mathlib.Core.Option.{none, some}
 use mathlib.Core.Path.{◌≡◌, refl, sym, ap, subst, ◌∙◌}
 use native.Mathlib.Omega.{arith}
 use borrow.Author.Tests.{lt-ltb, le-ltb, ltb-true, ltb-false}
+use Rattle.std.specs.Prelude.{Some, None}
 use lib.Dec.{ltb}
 use lib.IntN.{ℤ, pos}
 use lib.ListN.{length, get_or}
@@ -96,26 +96,26 @@ module _ (t : ℤ) where
 
   -- ---- the reading, and none
 
-  pub reading-none : (ts : List ℤ) → length ts ≡ 0 → none ≡ nearest_reading t ts
+  pub reading-none : (ts : List ℤ) → length ts ≡ 0 → None ≡ nearest_reading t ts
   reading-none [] e = refl
   reading-none (u ∷ us) e = absurd (omega arith)
 
-  pub reading-some : (ts : List ℤ) → 0 < length ts → some (nearest_index t ts) ≡ nearest_reading t ts
+  pub reading-some : (ts : List ℤ) → 0 < length ts → Some (nearest_index t ts) ≡ nearest_reading t ts
   reading-some [] h = absurd (omega arith)
   reading-some (u ∷ us) h = refl
 
-  pub reading-nearest : (ts : List ℤ) (i : ℕ) → nearest_reading t ts ≡ some i → Nearest t ts i
+  pub reading-nearest : (ts : List ℤ) (i : ℕ) → nearest_reading t ts ≡ Some i → Nearest t ts i
   reading-nearest [] i e = absurd (let clash : ◌≡◌ {A = ℕ} 0 1 = cc in omega arith)
   reading-nearest (u ∷ us) i e = let same : nearest_index t (u ∷ us) ≡ i = cc in subst (Nearest t (u ∷ us)) same (nearest-is u us)
 
-  pub nearest-reading : (ts : List ℤ) (i : ℕ) → Nearest t ts i → nearest_reading t ts ≡ some i
+  pub nearest-reading : (ts : List ℤ) (i : ℕ) → Nearest t ts i → nearest_reading t ts ≡ Some i
   nearest-reading [] i n = absurd (omega (arith, n.within))
-  nearest-reading (u ∷ us) i n = ap some (sym (nearest-only (u ∷ us) i n))
+  nearest-reading (u ∷ us) i n = ap Some (sym (nearest-only (u ∷ us) i n))
 
   -- none if the series is empty, and only then
-  pub empty-none : nearest_reading t [] ≡ none
+  pub empty-none : nearest_reading t [] ≡ None
   empty-none = refl
 
-  pub none-empty : (ts : List ℤ) → nearest_reading t ts ≡ none → ts ≡ []
+  pub none-empty : (ts : List ℤ) → nearest_reading t ts ≡ None → ts ≡ []
   none-empty [] e = refl
   none-empty (u ∷ us) e = absurd (let clash : ◌≡◌ {A = ℕ} 0 1 = cc in omega arith)

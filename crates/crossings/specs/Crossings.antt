@@ -7,13 +7,11 @@ use Rattle.std.specs.Float.{binary64}
 use Rattle.std.specs.Float.Ieee.{lt, of_bits}
 use Rattle.std.specs.Float.Ieee.Scale.{finite}
 use Rattle.times.specs.Readings.{filter}
-use Rattle.series.specs.Answers.{Outcome, Reply, gives, outcome_of, refuses}
+use Rattle.series.specs.Answers.{Outcome, outcome_of}
 use Rattle.series.specs.Refusals.{first_refusal, refused_if}
 use Rattle.series.specs.Rows.{series_checked}
 use Rattle.series.specs.declared.refusal.Refusal.TheVariants.{LimitNotFinite, IndexesShort}
 use Rattle.series.specs.Refusals.{Checked}
-use Rattle.crossings.specs.declared.listed.Listed.{Listed}
-use Rattle.crossings.specs.declared.listed.Listed.TheVariants.{Count, Refused}
 
 -- a value, by its pattern, is below the limit or else above it; the two zeros are one value and one limit
 abbrev pub below : Float → ℕ → Bool
@@ -70,8 +68,3 @@ abbrev pub crossings_of : List ℤ → List ℕ → Float → List ℕ → Outco
 crossings_of ts vs limit old =
     let found = crossing_indexes limit vs in
     outcome_of (crossings_checked ts vs limit (length old)) (length found) (found ++ drop (length found) old) old
-
--- the answer enum in numbers
-abbrev pub listed_reply : Listed → Reply ℕ
-listed_reply (Count n) = gives n
-listed_reply (Refused r) = refuses r

@@ -1,16 +1,13 @@
 -- The reading nearest to a time. Times need not differ: of several at the least distance it is the first.
 -- proofs/Closest.antt shows that the definition gives `Nearest`, and nothing else is so.
 -- Assumes nothing.
-use Rattle.std.specs.Prelude.{ℕ, ◌≤◌, ◌<◌, Bool, false, not, ◌||◌, List, [], ◌∷◌, ◌≡◌, refl, ltb, ℤ, pos, nat_abs, ◌-ℤ◌, length, get_or}
-use Rattle.std.proofs.Math.Option.{Option, none, some}
+use Rattle.std.specs.Prelude.{ℕ, ◌≤◌, ◌<◌, Bool, false, not, ◌||◌, List, [], ◌∷◌, ◌≡◌, refl, ltb, Option, Some, None, ℤ, pos, nat_abs, ◌-ℤ◌, length, get_or}
 use Rattle.times.specs.Leading.{leading}
-use Rattle.series.specs.Answers.{Reply, gives, refuses, reply_of}
+use Rattle.series.specs.Answers.{Reply, reply_of}
 use Rattle.series.specs.Refusals.{first_refusal, refused_if}
 use Rattle.series.specs.Rows.{row2, row3, row4, time_inside}
 use Rattle.series.specs.declared.refusal.Refusal.TheVariants.{TimeOutside}
 use Rattle.series.specs.Refusals.{Checked}
-use Rattle.crossings.specs.declared.nearer.Found.{Found}
-use Rattle.crossings.specs.declared.nearer.Found.TheVariants.{At, Nothing, Refused}
 
 -- how far u lies from t
 abbrev pub distance : ℤ → ℤ → ℕ
@@ -27,16 +24,16 @@ nearest_index t ts = leading (has_closer t ts) ts
 
 -- none for an empty series only
 abbrev pub nearest_reading : ℤ → List ℤ → Option ℕ
-nearest_reading t [] = none
-nearest_reading t (u ∷ us) = some (nearest_index t (u ∷ us))
+nearest_reading t [] = None
+nearest_reading t (u ∷ us) = Some (nearest_index t (u ∷ us))
 
 -- of 1, 4, 4 and 9 the nearest to 5 is the first 4
-first-of-equals : nearest_reading (pos 5) (pos 1 ∷ pos 4 ∷ pos 4 ∷ pos 9 ∷ []) ≡ some 1
+first-of-equals : nearest_reading (pos 5) (pos 1 ∷ pos 4 ∷ pos 4 ∷ pos 9 ∷ []) ≡ Some 1
 unfolding nearest_index has_closer leading
 first-of-equals = refl
 
 -- 1 and 9 are as far from 5, and 1 has the lower index
-tie : nearest_reading (pos 5) (pos 1 ∷ pos 9 ∷ []) ≡ some 0
+tie : nearest_reading (pos 5) (pos 1 ∷ pos 9 ∷ []) ≡ Some 0
 unfolding nearest_index has_closer leading
 tie = refl
 
@@ -58,9 +55,3 @@ asked_checked ts t = first_refusal (row2 ts ∷ row3 ts ∷ row3_asked t ∷ row
 
 abbrev pub nearest_of : List ℤ → ℤ → Reply (Option ℕ)
 nearest_of ts t = reply_of (asked_checked ts t) (nearest_reading t ts)
-
--- the answer enum in numbers
-abbrev pub found_reply : Found → Reply (Option ℕ)
-found_reply (At i) = gives (some i)
-found_reply Nothing = gives none
-found_reply (Refused r) = refuses r

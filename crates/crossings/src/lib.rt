@@ -4,5 +4,5 @@
 mod listed;
 mod nearer;
 
-pub use listed::{Listed, crossings};
-pub use nearer::{Found, nearest};
+pub use listed::crossings;
+pub use nearer::nearest;

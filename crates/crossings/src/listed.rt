@@ -3,18 +3,11 @@
 ghost use Rattle.std.specs.Prelude.{◌≡◌, ◌<◌, length, get_or};
 ghost use Rattle.std.specs.Float.Ieee.Scale.{finite};
 ghost use Rattle.times.specs.Leading.{leading};
-ghost use Rattle.series.specs.Answers.{outcome};
+ghost use Rattle.series.specs.Answers.{outcome, reply};
 ghost use Rattle.series.specs.Rows.{finite_bits};
-ghost use Rattle.crossings.specs.Crossings.{below, crosses, crossing_indexes, crossings_of, listed_reply};
+ghost use Rattle.crossings.specs.Crossings.{below, crosses, crossing_indexes, crossings_of};
 
-use series::{Checked, Refusal};
-
-// How many crossings a series has, or why the call is refused.
-#[derive(Clone, Copy)]
-pub enum Listed {
-    Count(u64),
-    Refused(Refusal),
-}
+use series::Refusal;
 
 // Whether x is neither NaN nor infinite.
 fn is_number(x: f64) -> bool
@@ -73,8 +66,13 @@ fn list(values: &[u64], limit: f64, indexes: &mut [u64])
 
 // Writes the index of each reading whose value is on the other side of the limit from the one before, in order, to the first entries of
 // indexes, and counts them; or refuses by rows 1 to 5, 15 and 16 and writes nothing.
-pub fn crossings(timestamps: &[i64], values: &[u64], limit: f64, indexes: &mut [u64]) -> Listed
-    ensures { outcome (listed_reply result) indexes.new ≡ crossings_of timestamps.now values.now limit indexes.old }
+pub fn crossings(
+    timestamps: &[i64],
+    values: &[u64],
+    limit: f64,
+    indexes: &mut [u64],
+) -> Result<u64, Refusal>
+    ensures { outcome (reply result) indexes.new ≡ crossings_of timestamps.now values.now limit indexes.old }
 {
     series::check_series(timestamps, values)?;
     if !is_number(limit) {
@@ -85,5 +83,5 @@ pub fn crossings(timestamps: &[i64], values: &[u64], limit: f64, indexes: &mut [
         return Err(Refusal::IndexesShort);
     }
     list(values, limit, &mut indexes[..n]);
-    Listed::Count(n as u64)
+    Ok(n as u64)
 }

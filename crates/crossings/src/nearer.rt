@@ -5,19 +5,12 @@ ghost use Rattle.std.specs.Int.Signed.{le_z};
 ghost use Rattle.times.specs.Later.{NotFalling};
 ghost use Rattle.times.specs.Leading.{leading};
 ghost use Rattle.times.specs.Milli.{time_limit, Within};
+ghost use Rattle.series.specs.Answers.{reply};
 ghost use Rattle.series.specs.Rows.{time_inside};
-ghost use Rattle.crossings.specs.Nearest.{asked_checked, distance, found_reply, nearest_index, nearest_of};
+ghost use Rattle.crossings.specs.Nearest.{asked_checked, distance, nearest_index, nearest_of};
 
-use series::{Checked, Refusal};
+use series::Refusal;
 use times::search::seek_first_timestamp_idx_after;
-
-// The index of the nearest reading, nothing where there is no reading, or why the call is refused.
-#[derive(Clone, Copy)]
-pub enum Found {
-    At(usize),
-    Nothing,
-    Refused(Refusal),
-}
 
 // Rows 2 to 4, and between 3 and 4 that of the asked time.
 fn check_asked(timestamps: &[i64], time: i64) -> Result<(), Refusal>
@@ -62,14 +55,14 @@ fn seek_nearest(timestamps: &[i64], time: i64) -> usize
     seek_first_timestamp_idx_after(timestamps, before - 1, after)
 }
 
-// The index of the reading with the least distance from a time, the lowest of a tie; or the refusal by row 2, 3 of the readings, 3 of
-// the asked time, or 4.
-pub fn nearest(timestamps: &[i64], time: i64) -> Found
-    ensures { found_reply result ≡ nearest_of timestamps.now time }
+// The index of the reading with the least distance from a time, the lowest of a tie, and none where there is no reading; or the refusal
+// by row 2, 3 of the readings, 3 of the asked time, or 4.
+pub fn nearest(timestamps: &[i64], time: i64) -> Result<Option<usize>, Refusal>
+    ensures { reply result ≡ nearest_of timestamps.now time }
 {
     check_asked(timestamps, time)?;
     if timestamps.len() == 0 {
-        return Found::Nothing;
+        return Ok(None);
     }
-    Found::At(seek_nearest(timestamps, time))
+    Ok(Some(seek_nearest(timestamps, time)))
 }

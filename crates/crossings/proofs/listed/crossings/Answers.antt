@@ -7,33 +7,36 @@ use mathlib.Core.Path.{sym, ap, ◌∙◌}
 use borrow.Author.Tests.{lt-ltb, le-ltb}
 use lib.ListN.{drop}
 use lib.Seq.{length-take-le}
+use Rattle.std.proofs.lemmas.Result.{err_from_is_err_and}
 use Rattle.series.proofs.Accepted.{accepted-series}
 use Rattle.series.specs.Answers.{gives, outcome}
 use Rattle.crossings.specs.Crossings.{crossings_checked}
 use Rattle.crossings.proofs.listed.crossings.Goals as goal
 
-pub returns-in-Refused : goal.returns-in-Refused
+pub returns-in_err-check_series : goal.returns-in_err-check_series
 unfolding crossings_checked
-returns-in-Refused c = rw (← c.check_series-checked.ensures, c.in-Refused.is)
+returns-in_err-check_series c =
+    let p = err_from_is_err_and c.from_residual.result c.from_residual.ensures.1 in
+    rw (p.1, p.2, ← c.check_series.ensures, c.in_err-check_series.was)
 
 pub returns-then-not-is_number : goal.returns-then-not-is_number
 unfolding crossings_checked
-returns-then-not-is_number c = rw (← c.is_number.ensures, c.if-not-is_number.true, ← c.check_series-checked.ensures, c.in_default.is)
+returns-then-not-is_number c = rw (← c.is_number.ensures, c.if-not-is_number.true, ← c.check_series.ensures, c.in_ok-check_series.was)
 
 pub count-n-requires : goal.count-n-requires
-count-n-requires c = (accepted-series _ _ (sym c.check_series-checked.ensures ∙ c.in_default.is)).all_finite
+count-n-requires c = (accepted-series _ _ (sym c.check_series.ensures ∙ c.in_ok-check_series.was)).all_finite
 
 pub returns-then-indexes-n : goal.returns-then-indexes-n
 unfolding crossings_checked
 returns-then-indexes-n c =
-    rw (← c.count-n.ensures, lt-ltb _ _ c.if-indexes-n.true, ← c.is_number.ensures, c.if-not-is_number.false, ← c.check_series-checked.ensures, c.in_default.is)
+    rw (← c.count-n.ensures, lt-ltb _ _ c.if-indexes-n.true, ← c.is_number.ensures, c.if-not-is_number.false, ← c.check_series.ensures, c.in_ok-check_series.was)
 
 pub list-requires : goal.list-requires
 list-requires c =
-    ((accepted-series _ _ (sym c.check_series-checked.ensures ∙ c.in_default.is)).all_finite, length-take-le _ _ c.if-indexes-n.false ∙ c.count-n.ensures)
+    ((accepted-series _ _ (sym c.check_series.ensures ∙ c.in_ok-check_series.was)).all_finite, length-take-le _ _ c.if-indexes-n.false ∙ c.count-n.ensures)
 
 pub returns : goal.returns
 unfolding crossings_checked
 returns c =
-    rw (← c.count-n.ensures, le-ltb _ _ c.if-indexes-n.false, ← c.is_number.ensures, c.if-not-is_number.false, ← c.check_series-checked.ensures, c.in_default.is)
+    rw (← c.count-n.ensures, le-ltb _ _ c.if-indexes-n.false, ← c.is_number.ensures, c.if-not-is_number.false, ← c.check_series.ensures, c.in_ok-check_series.was)
     (ap (λ (new : List ℕ). outcome (gives c.count-n.result) (new ++ drop c.count-n.result c.args.indexes.now)) c.list.ensures)

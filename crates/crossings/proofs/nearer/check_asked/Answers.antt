@@ -20,11 +20,11 @@ returns-then-is_inside c = c.check_times-times.ensures ∙ asked-inside _ _ (sym
 
 pub returns-then-number-lt4 : goal.returns-then-number-lt4
 returns-then-number-lt4 c =
-    asked-early _ _ (sym (inside_is _ _ c.ranges.time c.is_inside.ensures) ∙ c.if-is_inside.false) _ (sym c.check_times-times.ensures ∙ c.in-Refused.is) (omega (arith, c.number.ensures, c.if-number-lt4.true))
+    asked-early _ _ (sym (inside_is _ _ c.ranges.time c.is_inside.ensures) ∙ c.if-is_inside.false) _ (sym c.check_times-times.ensures ∙ c.in-Err.is) (omega (arith, c.number.ensures, c.if-number-lt4.true))
 
 pub returns-else-number-lt4 : goal.returns-else-number-lt4
 returns-else-number-lt4 c =
-    asked-late _ _ (sym (inside_is _ _ c.ranges.time c.is_inside.ensures) ∙ c.if-is_inside.false) _ (sym c.check_times-times.ensures ∙ c.in-Refused.is) (omega (arith, c.number.ensures, c.if-number-lt4.false))
+    asked-late _ _ (sym (inside_is _ _ c.ranges.time c.is_inside.ensures) ∙ c.if-is_inside.false) _ (sym c.check_times-times.ensures ∙ c.in-Err.is) (omega (arith, c.number.ensures, c.if-number-lt4.false))
 
 pub returns-in_default : goal.returns-in_default
 returns-in_default c =

@@ -15,7 +15,7 @@ seek_nearest-requires c =
     let ts = c.args.timestamps.now in
     let t = c.args.time in
     -- the rows are of the time that was asked
-    let checked-is : c.check_asked-checked.result ≡ asked_checked ts t = c.check_asked-checked.ensures ∙ ap (asked_checked ts) (to_z-of_z c.ranges.time) in
-    let accepted = asked-accepted ts t (sym checked-is ∙ c.in_default.is) in
+    let checked-is : c.check_asked.result ≡ asked_checked ts t = c.check_asked.ensures ∙ ap (asked_checked ts) (to_z-of_z c.ranges.time) in
+    let accepted = asked-accepted ts t (sym checked-is ∙ c.in_ok-check_asked.was) in
     let times = accepted-times ts accepted.0 in
     (rising-not-falling (rising ts times.all_rise), times.all_inside, rw (to_z-of_z c.ranges.time) (inside-within t accepted.1), omega (arith, c.if-timestamps-eq0.false))
