@@ -21,7 +21,8 @@ use Rattle.settings.specs.declared.RollupConfig.{RollupConfig}
 use Rattle.config.specs.Estimate.{estimate_of}
 use Rattle.config.specs.Reach.{reach_of, capped_by, bounded_reach, raised_step, window_of}
 use Rattle.settings.specs.Rows.{outside, settled_limit, settled_row8, settings_checked, settled_outside}
-use Rattle.config.specs.Settle.{Settlement, settled_reach_of, settled_window_of, settlement, settle_of}
+use Rattle.config.specs.declared.settle.Settlement.{Settlement}
+use Rattle.config.specs.Settle.{settled_reach_of, settled_window_of, settlement, settle_of}
 use Rattle.config.proofs.Distances.{not-falling, within}
 use Rattle.config.proofs.Estimates.{estimate-small, estimate-some}
 use Rattle.settings.proofs.Passed.{settings-passed}

@@ -2,6 +2,7 @@
 -- Assumes nothing.
 use mathlib.Core.List.{[], ◌∷◌}
 use mathlib.Core.Path.{◌≡◌, sym, ap, ◌∙◌}
+use Rattle.std.proofs.lemmas.Result.{err_from_is_err_and}
 use Rattle.series.specs.Answers.{reply_of}
 use Rattle.series.specs.Refusals.{first_refusal}
 use Rattle.series.specs.Refusals.{Checked}
@@ -10,14 +11,16 @@ use Rattle.config.specs.Settle.{settlement, settle_of}
 use Rattle.settings.proofs.Passed.{last_row}
 use Rattle.config.proofs.settle.settle.Goals as goal
 
-pub returns-in-Refused : goal.returns-in-Refused
+pub returns-in_err-check_times : goal.returns-in_err-check_times
 unfolding settle_of
-returns-in-Refused c = rw (← c.in-Refused.ensures)
+returns-in_err-check_times c =
+    let p = err_from_is_err_and c.from_residual.result c.from_residual.ensures.1 in
+    rw (p.1, p.2, ← c.check_times.ensures, c.in_err-check_times.was)
 
 pub returns : goal.returns
 unfolding settle_of
 returns c =
     let rc = c.args.rc in
     let last : settings_checked rc ≡ first_refusal (settings_checked rc ∷ []) = sym (last_row (settings_checked rc)) in
-    rw (← c.in_default.ensures)
+    rw (← c.check_times.ensures, c.in_ok-check_times.was)
     (c.settle_settings.ensures ∙ ap (λ (x : Checked). reply_of x (settlement c.args.timestamps.now rc)) last)
