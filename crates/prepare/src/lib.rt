@@ -11,25 +11,13 @@ ghost use Rattle.steps.specs.Steps.{prepared_of};
 use series::{Refusal, check_series};
 use steps::PreFunction;
 
-// The values as they are.
-fn copy(values: &[u64], prepared: &mut [u64])
-    requires { length prepared.old ≡ length values.now }
-    ensures { prepared.new ≡ values.now }
-{
-    let mut i = 0;
-    while i < values.len() {
-        prepared[i] = values[i];
-        i += 1;
-    }
-}
-
 // The values of an accepted series after the step, in a slice of their number.
 pub fn apply(timestamps: &[i64], values: &[u64], pre: PreFunction, prepared: &mut [u64])
     requires { (series_checked timestamps.now values.now ≡ Ok tt) × (length prepared.old ≡ length values.now) }
     ensures { prepared.new ≡ patterns (prepared_of pre timestamps.now (floats values.now)) }
 {
     match pre {
-        PreFunction::None => copy(values, prepared),
+        PreFunction::None => prepared.copy_from_slice(values),
         PreFunction::Resets => steps::remove_counter_resets(values, prepared),
         PreFunction::Delta => steps::delta_values(values, prepared),
         PreFunction::Deriv => steps::deriv_values(values, timestamps, prepared),

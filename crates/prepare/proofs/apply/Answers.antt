@@ -41,7 +41,7 @@ unfolding prepared_of
 returns-in-None c =
     let values = c.args.values.now in
     rw c.in-None.is
-    (c.copy.ensures ∙ sym (patterns-floats values (accepted-series _ _ c.requires.0).all_finite λ i. (c.type_inv.values i).fits))
+    (c.copy_from_slice.ensures.after ∙ sym (patterns-floats values (accepted-series _ _ c.requires.0).all_finite λ i. (c.type_inv.values i).fits))
 
 pub returns-in-Resets : goal.returns-in-Resets
 unfolding prepared_of
