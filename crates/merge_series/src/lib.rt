@@ -5,4 +5,4 @@ mod call;
 mod joined;
 mod written;
 
-pub use call::{Merged, merge};
+pub use call::merge;
