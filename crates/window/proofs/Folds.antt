@@ -10,9 +10,21 @@ use lib.Seq.{drop-cons}
 use lib.IntN.{ℤ, pos}
 use native.Mathlib.Nat.{le_of_suc-le-suc, not-suc-le-zero}
 use lib.Ieee.{Float, nan, binary64, of_bits}
+use Rattle.std.specs.List.{fold}
 use Rattle.ieee.specs.Patterns.{floats}
 use Rattle.window.specs.Window.{readings}
 use Rattle.ieee.proofs.Floats.{length-floats, get_or-floats}
+
+-- a fold over the patterns, at the value of each, is the fold over the values
+pub fold-values : {S : Type 0} (step : S → Float → S) (z : S) (l : List ℕ) → fold (λ s b. step s (of_bits binary64 b)) z l ≡ foldl step z (floats l)
+unfolding floats
+fold-values step z [] = refl
+fold-values step z (b ∷ l) = fold-values step (step z (of_bits binary64 b)) l
+
+-- a fold over a slice's items
+pub fold-items : {A S : Type 0} (step : S → A → S) (z : S) (l : List A) → fold step z l ≡ foldl step z l
+fold-items step z [] = refl
+fold-items step z (x ∷ l) = fold-items step (step z x) l
 
 -- the fold from s over the items from i on is the whole
 pub record Folded {A S : Type 0} (step : S → A → S) (xs : List A) (whole s : S) (i : ℕ) : Type 0 where

@@ -1,10 +1,11 @@
 -- A search from a window's end for the last item that passes a test: the items from i on fail it, so those before i decide.
 -- Assumes nothing.
-use Prim.Native.Nat.{ℕ, zero, suc, ◌-◌, ◌≤◌, ◌<◌, zero-le, suc-le-suc}
+use Prim.Native.Nat.{ℕ, zero, suc, ◌+◌, ◌-◌, ◌≤◌, ◌<◌, zero-le, suc-le-suc}
 use mathlib.Core.Bool.{Bool, true, false}
 use mathlib.Core.Path.{◌≡◌, refl, sym, ◌∙◌, ap}
 use mathlib.Core.List.{List, [], ◌∷◌}
 use native.Mathlib.Omega.{arith}
+use native.Mathlib.Numerals.{add-one}
 use native.Mathlib.Nat.{le_of_suc-le-suc, not-suc-le-zero}
 use lib.ListN.{length, take, get_or}
 use lib.Seq.{take-length}
@@ -37,6 +38,22 @@ pub up-to-within : {A : Type 0} (passes : A → Bool) (l : List A) → up_to_las
 unfolding up_to_last
 up-to-within passes [] = zero-le
 up-to-within passes (x ∷ l) = counted-within (passes x) (up-to-within passes l)
+
+-- where each item fails
+pub up-to-none : {A : Type 0} (passes : A → Bool) (l : List A) (d : A) → ((k : ℕ) → k < length l → passes (get_or l k d) ≡ false) → 0 ≡ up_to_last passes l
+unfolding up_to_last
+up-to-none passes [] d h = refl
+up-to-none passes (x ∷ l) d h = rw (h zero (suc-le-suc zero-le), ← up-to-none passes l d (λ k q. h (suc k) (suc-le-suc q)))
+
+-- where the item at i passes, and each one after it fails
+pub up-to-found : {A : Type 0} (passes : A → Bool) (l : List A) (i : ℕ) (d : A) → i < length l → passes (get_or l i d) ≡ true
+    → ((k : ℕ) → i + 1 ≤ k → k < length l → passes (get_or l k d) ≡ false) → i + 1 ≡ up_to_last passes l
+unfolding up_to_last
+up-to-found passes [] i d h e fails = absurd (not-suc-le-zero h)
+up-to-found passes (x ∷ l) zero d h e fails = rw (e, ← up-to-none passes l d (λ k q. fails (suc k) (suc-le-suc zero-le) (suc-le-suc q)))
+up-to-found passes (x ∷ l) (suc i) d h e fails =
+    let found : i + 1 ≡ up_to_last passes l = up-to-found passes l i d (le_of_suc-le-suc h) e (λ k q r. fails (suc k) (omega arith) (suc-le-suc r)) in
+    rw (← found, add-one i, counted-suc, add-one (suc i))
 
 -- the items from i on fail
 pub record Undecided {A : Type 0} (passes : A → Bool) (l : List A) (i : ℕ) : Type 0 where

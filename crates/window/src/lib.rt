@@ -2,4 +2,5 @@
 // Values are the 64 bits of each binary64, times are milliseconds.
 #![tactic(auto)]
 
+pub mod samples;
 pub mod types;

@@ -39,25 +39,14 @@ pub fn value_at(values: &[u64], i: usize) -> f64
     ieee::value_of(values[i])
 }
 
-// 0 for the pattern of a finite value, else 1: with the sign's bit taken off and the infinity's distance to 2^63 put on, the highest bit.
-fn one_unless_finite(b: u64) -> u64
-    ensures { result ≡ cond (finite (of_bits binary64 b)) 0 1 }
-{
-    (b % 0x8000_0000_0000_0000 + 0x0010_0000_0000_0000) / 0x8000_0000_0000_0000
-}
-
-// Whether every value is known to be finite. The loop adds and has no other way out, so that it takes several values at a time:
+// Whether every value is known to be finite. The fold has no early way out, as `all` has, so that it takes several values at a time:
 // a loop that reads the values after it by `finite_at` is spared more than this one costs.
 pub fn are_finite(values: &[u64]) -> bool
     ensures { result ≡ true → AllFinite values.now }
 {
-    let mut others = 0;
-    let mut i = 0;
-    while i < values.len() {
-        others += one_unless_finite(values[i]);
-        i += 1;
-    }
-    others == 0
+    values
+        .iter()
+        .fold(true, |known, b| known & ieee::is_finite(*b))
 }
 
 // The value at i, where all are finite.
@@ -73,30 +62,30 @@ pub fn finite_at(values: &[u64], i: usize) -> f64
 pub fn first(values: &[u64]) -> f64
     ensures { result ≡ first_of (floats values.now) }
 {
-    if values.len() == 0 {
-        return ieee::nan();
+    match values.first() {
+        Some(b) => ieee::value_of(*b),
+        None => ieee::nan(),
     }
-    value_at(values, 0)
 }
 
 // The last value, NaN where there is none.
 pub fn last(values: &[u64]) -> f64
     ensures { result ≡ last_of (floats values.now) }
 {
-    if values.len() == 0 {
-        return ieee::nan();
+    match values.last() {
+        Some(b) => ieee::value_of(*b),
+        None => ieee::nan(),
     }
-    value_at(values, values.len() - 1)
 }
 
-// The values after the first.
-pub fn rest(values: &[u64]) -> &[u64]
-    ensures { result.now ≡ drop 1 values.now }
+// The items after the first.
+pub fn rest<T>(xs: &[T]) -> &[T]
+    ensures { result.now ≡ drop 1 xs.now }
 {
-    if values.len() == 0 {
-        return values;
+    match xs.split_first() {
+        Some((_, rest)) => rest,
+        None => xs,
     }
-    &values[1..]
 }
 
 // Where a rollup over a window begins: at the predecessor, or else at the first value.
@@ -119,22 +108,22 @@ pub fn after_seed(prev_value: f64, values: &[u64]) -> &[u64]
     values
 }
 
-// The first n values.
-pub fn prefix(values: &[u64], n: usize) -> &[u64]
-    requires { n ≤ length values.now }
-    ensures { result.now ≡ take n values.now }
+// The first n items.
+pub fn prefix<T>(xs: &[T], n: usize) -> &[T]
+    requires { n ≤ length xs.now }
+    ensures { result.now ≡ take n xs.now }
 {
-    &values[..n]
+    &xs[..n]
 }
 
-// The values before the last.
-pub fn init(values: &[u64]) -> &[u64]
-    ensures { result.now ≡ take (length values.now - 1) values.now }
+// The items before the last.
+pub fn init<T>(xs: &[T]) -> &[T]
+    ensures { result.now ≡ take (length xs.now - 1) xs.now }
 {
-    if values.len() == 0 {
-        return values;
+    match xs.split_last() {
+        Some((_, init)) => init,
+        None => xs,
     }
-    prefix(values, values.len() - 1)
 }
 
 // The time at i.
@@ -149,30 +138,21 @@ pub fn time_at(timestamps: &[i64], i: usize) -> i64
 pub fn first_time(timestamps: &[i64]) -> i64
     ensures { result ≡ first_or (pos 0) timestamps.now }
 {
-    if timestamps.len() == 0 {
-        return 0;
-    }
-    time_at(timestamps, 0)
+    timestamps.first().copied().unwrap_or(0)
 }
 
 // The last time, 0 where there is none.
 pub fn last_time(timestamps: &[i64]) -> i64
     ensures { result ≡ last_or (pos 0) timestamps.now }
 {
-    if timestamps.len() == 0 {
-        return 0;
-    }
-    time_at(timestamps, timestamps.len() - 1)
+    timestamps.last().copied().unwrap_or(0)
 }
 
 // The times after the first.
 pub fn rest_times(timestamps: &[i64]) -> &[i64]
     ensures { result.now ≡ drop 1 timestamps.now }
 {
-    if timestamps.len() == 0 {
-        return timestamps;
-    }
-    &timestamps[1..]
+    rest(timestamps)
 }
 
 // Whether a is before b.
@@ -186,14 +166,10 @@ pub fn is_before(a: i64, b: i64) -> bool
 pub fn count_up_to(timestamps: &[i64], t: i64) -> usize
     ensures { result ≡ up_to_last (λ s. lt_z s t) timestamps.now }
 {
-    let mut i = timestamps.len();
-    while i > 0 {
-        if is_before(time_at(timestamps, i - 1), t) {
-            return i;
-        }
-        i -= 1;
+    match timestamps.iter().rposition(|s| *s < t) {
+        Some(i) => i + 1,
+        None => 0,
     }
-    0
 }
 
 // The seconds from one time to another.

@@ -1,16 +1,13 @@
--- `window::types::count_up_to` meets its contract: the readings from i on are not below t, so those before i decide.
+-- `window::types::count_up_to` meets its contract: the search from the end finds the last reading below t.
 -- Assumes nothing.
-use lib.IntN.{pos}
-use mir.Facts.{to_z-of_z}
-use Rattle.times.proofs.Milli.{read_back}
-use Rattle.window.proofs.Searches.{search-finds, search-goes-on, search-ends}
+use lib.IntN.{ℤ, pos}
+use lib.Signed.{lt_z}
+use borrow.Author.Rules.{rules}
+use Rattle.window.proofs.Searches.{up-to-none, up-to-found}
 use Rattle.window.proofs.types.count_up_to.Goals as goal
 
-pub returns-then-is_before : goal.returns-then-is_before
-returns-then-is_before c = rw (to_z-of_z c.ranges.t) at (search-finds (pos 0) c.loop-i.invariant c.loop-i-test.true (cc (read_back _ c.time_at.type_inv)))
+pub returns-in-Some : goal.returns-in-Some
+returns-in-Some c = up-to-found (λ (s : ℤ). lt_z s c.args.t) c.args.timestamps.now c.in-Some.i (pos 0) (search rules) (search rules) (search rules)
 
-pub loop-i-preserved : goal.loop-i-preserved
-loop-i-preserved c = search-goes-on (pos 0) c.loop-i.invariant c.loop-i-test.true (cc (read_back _ c.time_at.type_inv))
-
-pub returns : goal.returns
-returns c = rw (to_z-of_z c.ranges.t) at (search-ends c.loop-i.invariant c.loop-i-test.false)
+pub returns-in-None : goal.returns-in-None
+returns-in-None c = up-to-none (λ (s : ℤ). lt_z s c.args.t) c.args.timestamps.now (pos 0) (search rules)

@@ -1,12 +1,11 @@
--- `window::types::first` meets its contract: an empty window has no first value, and in another it stands at 0.
+-- `window::types::first` meets its contract: an empty window has no first value, and in another the slice gives its pattern.
 -- Assumes nothing.
-use mathlib.Core.Path.{◌∙◌, sym}
-use Rattle.ieee.proofs.Floats.{length-floats}
-use Rattle.window.proofs.Window.{first-none, first-value}
+use mathlib.Core.Path.{sym, ◌∙◌}
+use Rattle.window.proofs.Window.{first-pattern, no-first}
 use Rattle.window.proofs.types.first.Goals as goal
 
-pub returns-then-values-eq0 : goal.returns-then-values-eq0
-returns-then-values-eq0 c = c.nan.ensures ∙ sym (first-none _ _ (length-floats _ ∙ c.if-values-eq0.true))
+pub returns-in-Some : goal.returns-in-Some
+returns-in-Some c = c.value_of.ensures ∙ first-pattern _ _ c.in-Some.ensures.value
 
-pub returns : goal.returns
-returns c = c.value_at.ensures ∙ sym (first-value _ c.if-values-eq0.false)
+pub returns-in-None : goal.returns-in-None
+returns-in-None c = c.nan.ensures ∙ sym (no-first _ c.in-None.ensures.value)

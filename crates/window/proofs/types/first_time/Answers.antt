@@ -1,12 +1,13 @@
--- `window::types::first_time` meets its contract: an empty window has no first time, and in another it stands at 0.
+-- `window::types::first_time` meets its contract: the slice gives its first time, or none.
 -- Assumes nothing.
-use mathlib.Core.Path.{◌∙◌, sym}
+use mathlib.Core.Path.{ap, ◌∙◌}
+use lib.IntN.{ℤ, pos}
+use Rattle.std.proofs.Common.{Option}
+use Rattle.std.specs.Option.{unwrap_or}
 use Rattle.times.proofs.Milli.{read_back}
-use Rattle.window.proofs.Window.{first-none, first-at}
+use Rattle.window.proofs.Window.{first-given}
 use Rattle.window.proofs.types.first_time.Goals as goal
 
-pub returns-then-timestamps-eq0 : goal.returns-then-timestamps-eq0
-returns-then-timestamps-eq0 c = sym (first-none _ _ c.if-timestamps-eq0.true)
-
 pub returns : goal.returns
-returns c = read_back _ c.time_at.type_inv ∙ c.time_at.ensures ∙ sym (first-at _ _)
+returns c =
+    read_back _ c.unwrap_or.type_inv ∙ c.unwrap_or.ensures ∙ ap (λ (o : Option ℤ). unwrap_or o (pos 0)) (c.copied.ensures ∙ c.first.ensures.value) ∙ first-given _ _

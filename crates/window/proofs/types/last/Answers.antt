@@ -1,12 +1,11 @@
--- `window::types::last` meets its contract: an empty window has no last value, and in another it stands at the length less one.
+-- `window::types::last` meets its contract: an empty window has no last value, and in another the slice gives its pattern.
 -- Assumes nothing.
-use mathlib.Core.Path.{◌∙◌, sym}
-use Rattle.ieee.proofs.Floats.{length-floats}
-use Rattle.window.proofs.Window.{last_none, last-value}
+use mathlib.Core.Path.{sym, ◌∙◌}
+use Rattle.window.proofs.Window.{last-pattern, no-last}
 use Rattle.window.proofs.types.last.Goals as goal
 
-pub returns-then-values-eq0 : goal.returns-then-values-eq0
-returns-then-values-eq0 c = c.nan.ensures ∙ sym (last_none _ _ (length-floats _ ∙ c.if-values-eq0.true))
+pub returns-in-Some : goal.returns-in-Some
+returns-in-Some c = c.value_of.ensures ∙ last-pattern _ _ c.in-Some.ensures.value
 
-pub returns : goal.returns
-returns c = c.value_at.ensures ∙ sym (last-value _ c.if-values-eq0.false)
+pub returns-in-None : goal.returns-in-None
+returns-in-None c = c.nan.ensures ∙ sym (no-last _ c.in-None.ensures.value)

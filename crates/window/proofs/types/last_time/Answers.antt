@@ -1,12 +1,13 @@
--- `window::types::last_time` meets its contract: an empty window has no last time, and in another it stands at the length less one.
+-- `window::types::last_time` meets its contract: the slice gives its last time, or none.
 -- Assumes nothing.
-use mathlib.Core.Path.{◌∙◌, sym}
+use mathlib.Core.Path.{ap, ◌∙◌}
+use lib.IntN.{ℤ, pos}
+use Rattle.std.proofs.Common.{Option}
+use Rattle.std.specs.Option.{unwrap_or}
 use Rattle.times.proofs.Milli.{read_back}
-use Rattle.window.proofs.Window.{last_none, last-at}
+use Rattle.window.proofs.Window.{last-given}
 use Rattle.window.proofs.types.last_time.Goals as goal
 
-pub returns-then-timestamps-eq0 : goal.returns-then-timestamps-eq0
-returns-then-timestamps-eq0 c = sym (last_none _ _ c.if-timestamps-eq0.true)
-
 pub returns : goal.returns
-returns c = read_back _ c.time_at.type_inv ∙ c.time_at.ensures ∙ sym (last-at _ _)
+returns c =
+    read_back _ c.unwrap_or.type_inv ∙ c.unwrap_or.ensures ∙ ap (λ (o : Option ℤ). unwrap_or o (pos 0)) (c.copied.ensures ∙ c.last.ensures.value) ∙ last-given _ _
