@@ -1,3 +1,4 @@
 pub mod Times
 pub mod Accepted
 pub mod All
+pub mod Offending
