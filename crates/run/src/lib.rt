@@ -3,40 +3,19 @@
 #![tactic(auto)]
 
 ghost use Rattle.std.specs.Prelude.{◌≡◌};
-ghost use Rattle.series.specs.Answers.{outcome};
-ghost use Rattle.run.specs.Run.{figures_reply, lent, run_of, settled_run_of};
+ghost use Rattle.series.specs.Answers.{outcome, reply};
+ghost use Rattle.run.specs.Run.{lent, run_of, settled_run_of};
 
-use config::settle::{Settled, settle_settings};
+use config::settle::settle_settings;
 use rollup::handler::RollupHandler;
-use series::{Checked, Refusal, check_series};
+use series::{Refusal, check_series};
 use settings::course::{Course, settled_course};
 use settings::{RollupConfig, SettledConfig, check_settled};
 use steps::PreFunction;
 
 mod execute;
 
-// The number of samples counted, or the row that turned the call away.
-#[derive(Drop)]
-pub enum Figures {
-    Counted(u64),
-    Refused(Refusal),
-}
-
-// A refusal to settle, handed on.
-fn refused(settled: Settled) -> Figures
-    ensures { (x : Refusal) → settled ≡ Settled.Refused x → result ≡ Figures.Refused x }
-{
-    match settled {
-        Err(r) => Err(r),
-        Settled::Accepted {
-            window: _,
-            reach: _,
-            points: _,
-        } => Ok(0),
-    }
-}
-
-// The figures over the grid of rc, with the window and the reach that the series and rc settle to.
+// The number of samples counted, and the figures over the grid of rc, with the window and the reach that the series and rc settle to.
 pub fn run(
     timestamps: &[i64],
     values: &[u64],
@@ -46,25 +25,17 @@ pub fn run(
     dst_values: &mut [u64],
     prepared: &mut [u64],
     work: &mut [f64],
-) -> Figures
-    ensures { outcome (figures_reply result) (lent dst_values.new prepared.new work.new) ≡ run_of timestamps.now values.now pre handler rc (lent dst_values.old prepared.old work.old) }
+) -> Result<u64, Refusal>
+    ensures { outcome (reply result) (lent dst_values.new prepared.new work.new) ≡ run_of timestamps.now values.now pre handler rc (lent dst_values.old prepared.old work.old) }
 {
     check_series(timestamps, values)?;
-    let settled = settle_settings(timestamps, rc);
-    let Settled::Accepted {
-        window,
-        reach,
-        points,
-    } = settled
-    else {
-        return refused(settled);
-    };
+    let settled = settle_settings(timestamps, rc)?;
     let course = Course {
         start: rc.start,
         step: rc.step,
-        points,
-        window,
-        reach,
+        points: settled.points,
+        window: settled.window,
+        reach: settled.reach,
         samples_scanned_per_call: rc.samples_scanned_per_call,
     };
     execute::execute_within(
@@ -72,7 +43,7 @@ pub fn run(
     )
 }
 
-// The figures over the grid of sc, with the window and the reach that it is given.
+// The number of samples counted, and the figures over the grid of sc, with the window and the reach that it is given.
 pub fn settled_run(
     timestamps: &[i64],
     values: &[u64],
@@ -82,8 +53,8 @@ pub fn settled_run(
     dst_values: &mut [u64],
     prepared: &mut [u64],
     work: &mut [f64],
-) -> Figures
-    ensures { outcome (figures_reply result) (lent dst_values.new prepared.new work.new) ≡ settled_run_of timestamps.now values.now pre handler sc (lent dst_values.old prepared.old work.old) }
+) -> Result<u64, Refusal>
+    ensures { outcome (reply result) (lent dst_values.new prepared.new work.new) ≡ settled_run_of timestamps.now values.now pre handler sc (lent dst_values.old prepared.old work.old) }
 {
     check_series(timestamps, values)?;
     check_settled(sc)?;

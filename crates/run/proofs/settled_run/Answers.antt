@@ -6,29 +6,32 @@ use Rattle.settings.specs.Rows.{settled_settings}
 use Rattle.settings.proofs.Passed.{last_row}
 use Rattle.series.specs.Rows.{series_checked}
 use Rattle.std.specs.Prelude.{Ok}
+use Rattle.std.proofs.lemmas.Result.{err_from_is_err_and}
 use Rattle.run.specs.Run.{lent, lent_checked, settled_checked}
 use Rattle.run.proofs.Passed.{goes_by, settled-sound}
 use Rattle.run.proofs.settled_run.Goals as goal
 
-pub returns-in-Refused : goal.returns-in-Refused
+pub returns-in_err-check_series : goal.returns-in_err-check_series
 unfolding settled_checked
-returns-in-Refused c = rw (← c.check_series-checked.ensures, c.in-Refused.is)
+returns-in_err-check_series c =
+    let p = err_from_is_err_and c.from_residual.result c.from_residual.ensures.1 in
+    rw (p.1, p.2, ← c.check_series.ensures, c.in_err-check_series.was)
 
-pub returns-in-Refused-settings : goal.returns-in-Refused-settings
+pub returns-in_err-check_settled : goal.returns-in_err-check_settled
 unfolding settled_checked
-returns-in-Refused-settings c =
-    let series-ok : series_checked c.args.timestamps.now c.args.values.now ≡ Ok tt = sym c.check_series-checked.ensures ∙ c.in_default.is in
-    rw (series-ok, ← c.check_settled-settings.ensures, c.in-Refused-settings.is)
+returns-in_err-check_settled c =
+    let p = err_from_is_err_and c.from_residual-in_err-check_settled.result c.from_residual-in_err-check_settled.ensures.1 in
+    rw (p.1, p.2, ← c.check_series.ensures, c.in_ok-check_series.was, ← c.check_settled.ensures, c.in_err-check_settled.was)
 
 pub execute_within-requires-clause-allowed : goal.execute_within-requires-clause-allowed
 execute_within-requires-clause-allowed c =
-    rw c.settled_course.ensures (goes_by (settled-sound c.args.sc (sym c.check_settled-settings.ensures ∙ c.in_default-settings.is)))
+    rw c.settled_course.ensures (goes_by (settled-sound c.args.sc (sym c.check_settled.ensures ∙ c.in_ok-check_settled.was)))
 
 pub returns : goal.returns
 unfolding settled_checked
 returns c =
-    let series-ok : series_checked c.args.timestamps.now c.args.values.now ≡ Ok tt = sym c.check_series-checked.ensures ∙ c.in_default.is in
-    let settings-ok : settled_settings c.args.sc ≡ Ok tt = sym c.check_settled-settings.ensures ∙ c.in_default-settings.is in
+    let series-ok : series_checked c.args.timestamps.now c.args.values.now ≡ Ok tt = sym c.check_series.ensures ∙ c.in_ok-check_series.was in
+    let settings-ok : settled_settings c.args.sc ≡ Ok tt = sym c.check_settled.ensures ∙ c.in_ok-check_settled.was in
     let l = lent c.args.dst_values.now c.args.prepared.now c.args.work.now in
     rw (series-ok, settings-ok, last_row (lent_checked (length c.args.values.now) (settled_course c.args.sc).points l))
     (rw c.settled_course.ensures at c.execute_within.ensures)
