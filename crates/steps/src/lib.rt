@@ -128,11 +128,9 @@ pub fn remove_counter_resets(values: &[u64], prepared: &mut [u64])
     ensures { prepared.new ≡ patterns (resets (floats values.now)) }
 {
     let mut counter = Counter::new();
-    let mut i = 0;
-    while i < values.len() {
+    for i in 0..values.len() {
         counter = counter.next(read(values, i));
         prepared[i] = ieee::number_bits(counter.output);
-        i += 1;
     }
 }
 
@@ -142,11 +140,9 @@ pub fn remove_counter_resets_once(values: &[u64], prepared: &mut [u64])
     ensures { prepared.new ≡ patterns (resets_once (floats values.now)) }
 {
     let mut counter = Counter::new();
-    let mut i = 0;
-    while i < values.len() {
+    for i in 0..values.len() {
         counter = counter.next_once(read(values, i));
         prepared[i] = ieee::number_bits(counter.output);
-        i += 1;
     }
 }
 
@@ -160,15 +156,14 @@ pub fn delta_values(values: &[u64], prepared: &mut [u64])
     }
     let mut prev_delta = 0.0;
     let mut prev_value = read(values, 0);
-    let mut j = 0;
-    while j + 1 < values.len() {
+    let last = values.len() - 1;
+    for j in 0..last {
         let v = read(values, j + 1);
         prev_delta = v - prev_value;
         prepared[j] = ieee::number_bits(prev_delta);
         prev_value = v;
-        j += 1;
     }
-    prepared[j] = ieee::number_bits(prev_delta);
+    prepared[last] = ieee::number_bits(prev_delta);
 }
 
 impl Slope {
@@ -202,13 +197,12 @@ pub fn deriv_values(values: &[u64], timestamps: &[i64], prepared: &mut [u64])
         value: read(values, 0),
         ts: timestamps[0],
     };
-    let mut j = 0;
-    while j + 1 < values.len() {
+    let last = values.len() - 1;
+    for j in 0..last {
         slope = slope.next(read(values, j + 1), timestamps[j + 1]);
         prepared[j] = ieee::bits_of(slope.deriv);
-        j += 1;
     }
-    prepared[j] = ieee::bits_of(slope.deriv);
+    prepared[last] = ieee::bits_of(slope.deriv);
 }
 
 fn whole_seconds(t: i64) -> f64
@@ -223,12 +217,10 @@ pub fn calc_sample_intervals_pre_fn(timestamps: &[i64], prepared: &mut [u64])
     ensures { prepared.new ≡ patterns (intervals timestamps.now) }
 {
     let mut prev = ieee::nan();
-    let mut i = 0;
-    while i < timestamps.len() {
+    for i in 0..timestamps.len() {
         let secs = whole_seconds(timestamps[i]);
         prepared[i] = ieee::bits_of(secs - prev);
         prev = secs;
-        i += 1;
     }
     if 1 < prepared.len() {
         prepared[0] = prepared[1];

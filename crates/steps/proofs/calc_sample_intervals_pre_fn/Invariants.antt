@@ -1,4 +1,3 @@
-use Prim.Native.Nat.{◌-◌}
 use lib.ListN.{length, drop}
 use lib.Ieee.{nan}
 use Rattle.ieee.specs.Patterns.{patterns}
@@ -9,6 +8,3 @@ use Rattle.steps.proofs.calc_sample_intervals_pre_fn.Given as goal
 abbrev pub invariant-loop-i : goal.invariant-loop-i
 invariant-loop-i l =
     Written (length l.timestamps) l.i l.prepared (patterns (intervals_from l.prev (drop l.i l.timestamps))) (patterns (intervals_from nan l.timestamps))
-
-abbrev pub decreases-loop-i : goal.decreases-loop-i
-decreases-loop-i l = length l.timestamps - l.i

@@ -1,11 +1,11 @@
 -- `steps::delta_values` meets its contract. What is written and the steps still to write make the whole list of steps.
 -- Assumes nothing.
-use Prim.Native.Nat.{◌+◌}
+use Prim.Native.Nat.{◌+◌, ◌-◌}
 use mathlib.Core.Path.{◌≡◌, refl}
 use mathlib.Core.Bool.{true, false}
 use native.Mathlib.Omega.{arith}
 use borrow.Author.Rules.{rules}
-use lib.ListN.{drop_of_length-le}
+use lib.ListN.{length, drop_of_length-le}
 use lib.Ieee.{Float, binary64, is_nan, of_bits, sub}
 use lib.Ieee.Scale.{finite}
 use Rattle.ieee.specs.Patterns.{floats}
@@ -42,4 +42,5 @@ pub returns : goal.returns
 unfolding floats deltas_from
 returns c =
     let none = drop_of_length-le c.args.values.now {i = c.loop-j.j + 1} (omega arith) in
-    last (omega arith) (omega arith) (rw none at c.loop-j.invariant.3) c.number_bits-2.ensures
+    let end : length c.args.values.now - 1 ≡ c.loop-j.j = omega arith in
+    rw end (last (omega arith) (omega arith) (rw none at c.loop-j.invariant.3) c.number_bits-2.ensures)

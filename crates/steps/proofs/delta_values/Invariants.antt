@@ -1,4 +1,4 @@
-use Prim.Native.Nat.{◌+◌, ◌-◌, ◌<◌}
+use Prim.Native.Nat.{◌+◌, ◌<◌}
 use mathlib.Core.Path.{◌≡◌}
 use mathlib.Core.Bool.{true, false}
 use lib.ListN.{length, drop}
@@ -12,6 +12,3 @@ use Rattle.steps.proofs.delta_values.Given as goal
 abbrev pub invariant-loop-j : goal.invariant-loop-j
 invariant-loop-j l =
     (l.j < length l.values) × (finite l.prev_value ≡ true) × (is_nan l.prev_delta ≡ false) × Written (length l.values) l.j l.prepared (patterns (deltas_from l.prev_delta l.prev_value (floats (drop (l.j + 1) l.values)))) (patterns (deltas (floats l.values)))
-
-abbrev pub decreases-loop-j : goal.decreases-loop-j
-decreases-loop-j l = length l.values - l.j

@@ -1,9 +1,10 @@
 -- `steps::deriv_values` meets its contract. What is written and the slopes still to write make the whole list of slopes.
 -- Assumes nothing.
-use Prim.Native.Nat.{◌+◌}
+use mathlib.Core.Path.{◌≡◌}
+use Prim.Native.Nat.{◌+◌, ◌-◌}
 use native.Mathlib.Omega.{arith}
 use borrow.Author.Rules.{rules}
-use lib.ListN.{drop_of_length-le}
+use lib.ListN.{length, drop_of_length-le}
 use lib.IntN.{ℤ, pos}
 use lib.Signed.{lt_z}
 use mir.Facts.{to_z-of_z}
@@ -61,4 +62,5 @@ pub returns : goal.returns
 unfolding derivs_from
 returns c =
     let none = drop_of_length-le c.args.timestamps.now {i = c.loop-j.j + 1} (omega arith) in
-    last (omega arith) (omega arith) (rw none at c.loop-j.invariant.2) c.bits_of-2.ensures
+    let end : length c.args.values.now - 1 ≡ c.loop-j.j = omega arith in
+    rw end (last (omega arith) (omega arith) (rw none at c.loop-j.invariant.2) c.bits_of-2.ensures)

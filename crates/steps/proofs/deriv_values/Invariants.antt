@@ -1,4 +1,4 @@
-use Prim.Native.Nat.{◌+◌, ◌-◌, ◌<◌}
+use Prim.Native.Nat.{◌+◌, ◌<◌}
 use lib.ListN.{length, drop}
 use Rattle.times.specs.Milli.{time_limit, Within}
 use Rattle.ieee.specs.Patterns.{floats, patterns}
@@ -9,6 +9,3 @@ use Rattle.steps.proofs.deriv_values.Given as goal
 abbrev pub invariant-loop-j : goal.invariant-loop-j
 invariant-loop-j l =
     (l.j < length l.values) × Within time_limit l.slope.ts × Written (length l.values) l.j l.prepared (patterns (derivs_from l.slope (drop (l.j + 1) l.timestamps) (floats (drop (l.j + 1) l.values)))) (patterns (derivs l.timestamps (floats l.values)))
-
-abbrev pub decreases-loop-j : goal.decreases-loop-j
-decreases-loop-j l = length l.values - l.j

@@ -1,11 +1,6 @@
-use Prim.Native.Nat.{◌-◌}
-use lib.ListN.{length}
 use Rattle.steps.proofs.Counting.{Counting}
 use Rattle.steps.proofs.Resets.{keeps-value}
 use Rattle.steps.proofs.remove_counter_resets_once.Given as goal
 
 abbrev pub invariant-loop-i : goal.invariant-loop-i
 invariant-loop-i l = Counting (λ s. s.value) keeps-value l.values l.i l.prepared l.counter
-
-abbrev pub decreases-loop-i : goal.decreases-loop-i
-decreases-loop-i l = length l.values - l.i
