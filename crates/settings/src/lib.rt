@@ -43,29 +43,25 @@ const MAX_POINTS: u64 = 16_777_216;
 const MAX_PER_CALL: u64 = 65_535;
 
 // Whether x is below lo or above hi.
+#[tactic(auto, unfolding(crate::specs::Rows::outside))]
 fn is_outside(lo: i64, hi: i64, x: i64) -> bool
     ensures { result ≡ outside lo hi x }
 {
-    if x < lo {
-        return true;
-    }
-    hi < x
+    !(lo..=hi).contains(&x)
 }
 
 // Row 7's condition.
+#[tactic(auto, unfolding(crate::specs::Rows::span_outside))]
 fn is_span_outside(start: i64, end: i64) -> bool
     ensures { result ≡ span_outside start end }
 {
-    if is_outside(-TIME_LIMIT, TIME_LIMIT, start) {
-        return true;
-    }
-    if is_outside(-TIME_LIMIT, TIME_LIMIT, end) {
-        return true;
-    }
-    end < start
+    is_outside(-TIME_LIMIT, TIME_LIMIT, start)
+        || is_outside(-TIME_LIMIT, TIME_LIMIT, end)
+        || end < start
 }
 
 // Row 9's condition.
+#[tactic(auto, unfolding(crate::specs::Rows::setting_outside))]
 fn is_setting_outside(
     lookback_delta: i64,
     min_staleness_interval: i64,
@@ -74,27 +70,18 @@ fn is_setting_outside(
 ) -> bool
     ensures { result ≡ setting_outside lookback_delta min_staleness_interval max_points per_call }
 {
-    if is_outside(0, TIME_LIMIT, lookback_delta) {
-        return true;
-    }
-    if is_outside(0, TIME_LIMIT, min_staleness_interval) {
-        return true;
-    }
-    if is_outside(0, TIME_LIMIT, max_points) {
-        return true;
-    }
-    MAX_PER_CALL < per_call
+    is_outside(0, TIME_LIMIT, lookback_delta)
+        || is_outside(0, TIME_LIMIT, min_staleness_interval)
+        || is_outside(0, TIME_LIMIT, max_points)
+        || MAX_PER_CALL < per_call
 }
 
-// Row 10's condition.
+// Row 10's condition. Its callers hold the three of a grid as fields of their settings, so a struct of them would be made at each call.
 fn is_over_point_limit(start: i64, end: i64, step: i64, max_points: i64) -> bool
     requires { Spans start end step }
     ensures { result ≡ over_point_limit start end step max_points }
 {
-    if 0 < max_points {
-        return max_points < (end - start) / (step + 1);
-    }
-    false
+    0 < max_points && max_points < (end - start) / (step + 1)
 }
 
 // Rows 6 and 7.
@@ -152,13 +139,11 @@ pub fn check_settings(rc: RollupConfig) -> Result<(), Refusal>
 }
 
 // Row 8's condition in a settled run.
+#[tactic(auto, unfolding(crate::specs::Rows::settled_outside))]
 fn is_settled_outside(window: i64, reach: i64) -> bool
     ensures { result ≡ settled_outside window reach }
 {
-    if is_outside(1, SETTLED_LIMIT, window) {
-        return true;
-    }
-    is_outside(1, SETTLED_LIMIT, reach)
+    is_outside(1, SETTLED_LIMIT, window) || is_outside(1, SETTLED_LIMIT, reach)
 }
 
 // Rows 6 to 11 of a settled run: its own row 8, of row 9 the per-call number, and no row 10.

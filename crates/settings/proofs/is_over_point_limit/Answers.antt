@@ -54,6 +54,6 @@ returns-then-max_points-gt0 c =
     rw
     (computed c.requires c.ranges.start c.ranges.end c.ranges.step, to_z-of_z (quotient c.requires), to_z-of_z c.ranges.max_points, rw (to_z-of_z c.ranges.max_points) at c.if-max_points-gt0.true)
 
-pub returns : goal.returns
+pub returns-else-max_points-gt0 : goal.returns-else-max_points-gt0
 unfolding over_point_limit
-returns c = rw (rw (to_z-of_z c.ranges.max_points) at c.if-max_points-gt0.false)
+returns-else-max_points-gt0 c = rw (rw (to_z-of_z c.ranges.max_points) at c.if-max_points-gt0.false) c.if-max_points-gt0.false
