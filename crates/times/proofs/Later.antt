@@ -1,14 +1,18 @@
 -- Where the later times begin, by index and by time.
 -- Assumes nothing.
-use Prim.Native.Nat.{ℕ, zero, suc, ◌-◌, ◌≤◌, ◌<◌, suc-le-suc, zero-le}
+use Prim.Native.Nat.{ℕ, zero, suc, ◌+◌, ◌-◌, ◌≤◌, ◌<◌, suc-le-suc, zero-le}
 use native.Mathlib.Omega.{arith}
 use mathlib.Core.Path.{◌≡◌, refl, sym, ap, ◌∙◌}
-use mathlib.Core.Bool.{true, false, ◌&&◌}
+use mathlib.Core.Bool.{true, false, cond, ◌&&◌}
 use mathlib.Core.List.{List, [], ◌∷◌, map}
 use lib.IntN.{ℤ, pos}
 use lib.ListN.{length, get_or, take, drop}
 use lib.Signed.{le_z, lt_z}
 use lib.Dec.{leb, ltb}
+use Rattle.std.specs.List.{position, position_or_len}
+use Rattle.std.specs.Option.{unwrap_or}
+use Rattle.std.proofs.Common.{Some, None}
+use Rattle.std.proofs.lemmas.List.{get_or-take, length-take}
 use borrow.Author.Tests.{leb-true, leb-false, ltb-true, ltb-false}
 use Rattle.times.specs.Leading.{leading}
 use Rattle.times.specs.Later.{NotFalling, Rising, first_after}
@@ -30,6 +34,13 @@ pub not-falling-drop : (k : ℕ) {ts : List ℤ} → NotFalling ts → NotFallin
 not-falling-drop zero n = n
 not-falling-drop (suc k) {ts = []} n = n
 not-falling-drop (suc k) {ts = u ∷ ts} n = not-falling-drop k (not-falling-tail n)
+
+pub not-falling-take : (k : ℕ) {ts : List ℤ} → NotFalling ts → NotFalling (take k ts)
+not-falling-take k {ts} n = record {
+  next = λ i h.
+      let least = length-take k ts in
+      rw (get_or-take k ts i (pos 0) (omega arith), get_or-take k ts (suc i) (pos 0) (omega arith)) (n.next i (omega arith));
+}
 
 -- no later index has a time below
 pub not-falling-le : {ts : List ℤ} → NotFalling ts → (i j : ℕ) → i ≤ j → j < length ts → le_z (get_or ts i (pos 0)) (get_or ts j (pos 0)) ≡ true
@@ -82,6 +93,20 @@ first_taken n t i h e = ltb-true i _ (sym (first-test n t i h) ∙ e)
 pub first-left : {ts : List ℤ} → NotFalling ts → (t : ℤ) (i : ℕ) → i < length ts → le_z (get_or ts i (pos 0)) t ≡ false → first_after ts t ≤ i
 first-left n t i h e = ltb-false i _ (sym (first-test n t i h) ∙ e)
 
+-- the first time after t stands there
+position-after : (ts : List ℤ) (t : ℤ) → position_or_len (λ u. lt_z t u) ts ≡ first_after ts t
+unfolding first_after leading
+position-after [] t = refl
+position-after (u ∷ ts) t = by-test (le_z u t) (λ e. rw (lt_not_le t u, e) (omega (arith, position-after ts t))) (λ e. rw (lt_not_le t u, e))
+
+or-length : (m n : ℕ) → m ≤ n → unwrap_or (cond (ltb m n) (Some m) None) n ≡ m
+or-length m n h = by-test (ltb m n) (λ e. rw e) (λ e. rw e (omega (arith, ltb-false m n e)))
+
+pub first-position : (ts : List ℤ) (t : ℤ) → unwrap_or (position (λ u. lt_z t u) ts) (length ts) ≡ first_after ts t
+first-position ts t =
+    let is = position-after ts t in
+    or-length _ (length ts) (omega (arith, is, first-le ts t)) ∙ is
+
 -- in what is left of the times from index k on
 pub first-drop : {ts : List ℤ} → NotFalling ts → (t : ℤ) (k : ℕ) → first_after (drop k ts) t ≡ first_after ts t - k
 unfolding first_after leading
@@ -98,6 +123,12 @@ first-take ts t zero h = omega arith
 first-take [] t (suc k) h = refl
 first-take (u ∷ ts) t (suc k) h =
     by-test (le_z u t) (λ e. rw e (ap suc (first-take ts t k (omega (arith, rw e at h))))) (λ e. rw e)
+
+-- in the times from index i to index j, where it lies between
+pub first-part : {ts : List ℤ} → NotFalling ts → (t : ℤ) (i j : ℕ) → i ≤ first_after ts t → first_after ts t ≤ j → i + first_after (take (j - i) (drop i ts)) t ≡ first_after ts t
+first-part {ts} n t i j h k =
+    let left = first-drop n t i in
+    rw (first-take (drop i ts) t (j - i) (omega arith)) (omega arith)
 
 -- a later time has no lower index
 pub first-mono : (ts : List ℤ) (t u : ℤ) → le_z t u ≡ true → first_after ts t ≤ first_after ts u

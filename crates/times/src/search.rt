@@ -1,9 +1,8 @@
 // Where the times after an output time begin: the Rust's hinted search.
-// Each step keeps two bounds of the answer, from below and from above.
 
 ghost use Rattle.std.specs.Prelude.{◌≡◌, ◌≤◌, ◌<◌, length};
 ghost use Rattle.times.specs.Later.{NotFalling, first_after};
-ghost use Rattle.times.specs.Search.{Tells, Between};
+ghost use Rattle.times.specs.Search.{Tells};
 
 // Whether the time at i is after t, which bounds the answer from above or from below.
 fn is_after(timestamps: &[i64], t: i64, i: usize) -> bool
@@ -18,13 +17,7 @@ fn hinted_start(timestamps: &[i64], t: i64, n_hint: usize) -> usize
     requires { (NotFalling timestamps.now) × (0 < length timestamps.now) }
     ensures { result ≤ first_after timestamps.now t }
 {
-    if n_hint < 2 {
-        return 0;
-    }
-    let mut i = n_hint - 2;
-    if i >= timestamps.len() {
-        i = timestamps.len() - 1;
-    }
+    let i = n_hint.saturating_sub(2).min(timestamps.len() - 1);
     if is_after(timestamps, t, i) { 0 } else { i }
 }
 
@@ -34,38 +27,31 @@ fn hinted_end(timestamps: &[i64], t: i64, n_hint: usize) -> usize
     ensures { (first_after timestamps.now t ≤ result) × (result ≤ length timestamps.now) }
 {
     let count = timestamps.len();
-    if n_hint >= count {
-        return count;
-    }
-    if count - n_hint <= 2 {
+    if count.saturating_sub(n_hint) <= 2 {
         return count;
     }
     let i = n_hint + 2;
     if is_after(timestamps, t, i) { i } else { count }
 }
 
-// From lo on, one time after the other.
-fn scan(timestamps: &[i64], t: i64, lo: usize, hi: usize) -> usize
-    requires { Between timestamps.now t lo hi }
+// From the front on, one time after the other.
+fn scan(timestamps: &[i64], t: i64) -> usize
     ensures { result ≡ first_after timestamps.now t }
 {
-    let mut i = lo;
-    while i < hi {
-        if is_after(timestamps, t, i) {
-            return i;
-        }
-        i += 1;
-    }
-    i
+    timestamps
+        .iter()
+        .position(|ts| *ts > t)
+        .unwrap_or(timestamps.len())
 }
 
 // Half of what is left at each turn.
-fn binary_search(timestamps: &[i64], t: i64, lo: usize, hi: usize) -> usize
-    requires { Between timestamps.now t lo hi }
+// `partition_point` took 1.5 times as long: it has no branch to predict, and the answer is mostly near the front.
+fn binary_search(timestamps: &[i64], t: i64) -> usize
+    requires { NotFalling timestamps.now }
     ensures { result ≡ first_after timestamps.now t }
 {
-    let mut low = lo;
-    let mut high = hi;
+    let mut low = 0;
+    let mut high = timestamps.len();
     while low < high {
         let mid = low + (high - low) / 2;
         if is_after(timestamps, t, mid) {
@@ -86,17 +72,15 @@ pub fn seek_first_timestamp_idx_after(
     requires { NotFalling timestamps.now }
     ensures { result ≡ first_after timestamps.now seek_timestamp }
 {
-    if timestamps.len() == 0 {
-        return 0;
-    }
-    if is_after(timestamps, seek_timestamp, 0) {
+    if timestamps.is_empty() || is_after(timestamps, seek_timestamp, 0) {
         return 0;
     }
     let start_idx = hinted_start(timestamps, seek_timestamp, n_hint);
     let end_idx = hinted_end(timestamps, seek_timestamp, n_hint);
-    if end_idx - start_idx < 16 {
-        scan(timestamps, seek_timestamp, start_idx, end_idx)
+    let between = &timestamps[start_idx..end_idx];
+    if between.len() < 16 {
+        start_idx + scan(between, seek_timestamp)
     } else {
-        binary_search(timestamps, seek_timestamp, start_idx, end_idx)
+        start_idx + binary_search(between, seek_timestamp)
     }
 }

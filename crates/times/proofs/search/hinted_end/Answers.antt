@@ -4,12 +4,8 @@ use native.Mathlib.Omega.{arith}
 use Rattle.times.proofs.Later.{first-le}
 use Rattle.times.proofs.search.hinted_end.Goals as goal
 
-pub returns-then-n_hint-count : goal.returns-then-n_hint-count
-returns-then-n_hint-count c = omega (arith, first-le c.args.timestamps.now c.args.t)
-
-pub returns-then-count-n_hint-le2 : goal.returns-then-count-n_hint-le2
-returns-then-count-n_hint-le2 c = omega (arith, first-le c.args.timestamps.now c.args.t)
+pub returns-then-saturating_sub-le2 : goal.returns-then-saturating_sub-le2
+returns-then-saturating_sub-le2 c = omega (arith, first-le c.args.timestamps.now c.args.t)
 
 pub returns-else-is_after : goal.returns-else-is_after
-returns-else-is_after c =
-    omega (arith, first-le c.args.timestamps.now c.args.t)
+returns-else-is_after c = omega (arith, first-le c.args.timestamps.now c.args.t)
