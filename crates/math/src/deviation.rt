@@ -8,7 +8,7 @@ ghost use Rattle.math.specs.Deviation.{stdvar_of, stddev_of};
 pub fn stdvar(values: &[u64]) -> f64
     ensures { result ≡ stdvar_of (floats values.now) }
 {
-    if values.len() == 0 {
+    if values.is_empty() {
         return ieee::nan();
     }
     if values.len() == 1 {
@@ -17,16 +17,14 @@ pub fn stdvar(values: &[u64]) -> f64
     let mut avg = 0.0;
     let mut count = 0;
     let mut q = 0.0;
-    let mut i = 0;
-    while i < values.len() {
-        let v = ieee::value_of(values[i]);
+    for b in values {
+        let v = ieee::value_of(*b);
         if !ieee::is_nan(v) {
             count += 1;
             let avg_new = avg + (v - avg) / ieee::of_count(count);
             q = q + (v - avg) * (v - avg_new);
             avg = avg_new;
         }
-        i += 1;
     }
     if count == 0 {
         return ieee::nan();

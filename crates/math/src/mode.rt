@@ -9,10 +9,7 @@ ghost use Rattle.math.specs.Mode.{is_outdone, mode_sorted, mode_of};
 fn outdone(run: usize, d_max: usize, mode: f64) -> bool
     ensures { result ≡ is_outdone run d_max mode }
 {
-    if run > d_max {
-        return true;
-    }
-    ieee::is_nan(mode)
+    run > d_max || ieee::is_nan(mode)
 }
 
 // The mode of sorted samples.
@@ -23,9 +20,8 @@ pub fn mode_sorted(prev_value: f64, a: &[f64]) -> f64
     let mut run = 1;
     let mut d_max = 0;
     let mut mode = prev_value;
-    let mut i = 0;
-    while i < a.len() {
-        if prev == a[i] {
+    for x in a {
+        if prev == *x {
             run += 1;
         } else {
             if outdone(run, d_max, mode) {
@@ -33,9 +29,8 @@ pub fn mode_sorted(prev_value: f64, a: &[f64]) -> f64
                 mode = prev;
             }
             run = 1;
-            prev = a[i];
+            prev = *x;
         }
-        i += 1;
     }
     if outdone(run, d_max, mode) {
         return prev;
