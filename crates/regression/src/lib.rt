@@ -5,7 +5,7 @@ ghost use Rattle.std.specs.Prelude.{◌≡◌, ℕ, ◌<◌, pos, ◌-ℤ◌, le
 ghost use Rattle.std.specs.Int.{w64};
 ghost use Rattle.std.proofs.Common.{SFits};
 ghost use Rattle.ieee.specs.Patterns.{floats};
-ghost use Rattle.regression.specs.Regression.{are_const, no_sums, sums_from, line_of, regression_of};
+ghost use Rattle.regression.specs.Regression.{are_const, no_sums, sums_from, sums_with, line_of, regression_of};
 
 // A line's value at the intercept time, and its slope in a second.
 #[derive(Drop)]
@@ -23,52 +23,44 @@ pub struct Sums {
     pub tt_sum: f64,
 }
 
+impl Sums {
+    // The sums with a reading's value v at dt seconds taken in.
+    fn with(self, dt: f64, v: f64) -> Sums
+        ensures { result ≡ sums_with self dt v }
+    {
+        Sums {
+            v_sum: self.v_sum + v,
+            t_sum: self.t_sum + dt,
+            tv_sum: self.tv_sum + dt * v,
+            tt_sum: self.tt_sum + dt * dt,
+        }
+    }
+}
+
 // Whether no value differs from the one before it.
 pub fn are_const_values(values: &[u64]) -> bool
     ensures { result ≡ are_const (floats values.now) }
 {
-    if values.len() <= 1 {
-        return true;
-    }
-    let mut v_prev = ieee::value_of(values[0]);
-    let mut i = 1;
-    while i < values.len() {
-        let v = ieee::value_of(values[i]);
-        if v != v_prev {
-            return false;
-        }
-        v_prev = v;
-        i += 1;
-    }
-    true
+    values
+        .array_windows::<2>()
+        .all(|[prev, b]| ieee::value_of(*b) == ieee::value_of(*prev))
 }
 
-// The sums over the readings.
+// The sums over the readings, as many as there are both values and times.
 fn sum_up(values: &[u64], timestamps: &[i64], intercept_time: i64) -> Sums
-    requires timestamps_len { length timestamps.now ≡ length values.now }
     requires by_index { (i : ℕ) → i < length timestamps.now → SFits w64 (get_or timestamps.now i (pos 0) -ℤ intercept_time) }
     ensures { result ≡ sums_from intercept_time no_sums timestamps.now (floats values.now) }
 {
-    let mut v_sum = 0.0;
-    let mut t_sum = 0.0;
-    let mut tv_sum = 0.0;
-    let mut tt_sum = 0.0;
-    let mut i = 0;
-    while i < values.len() {
-        let dt = ieee::seconds(timestamps[i] - intercept_time);
-        let v = ieee::value_of(values[i]);
-        v_sum = v_sum + v;
-        t_sum = t_sum + dt;
-        tv_sum = tv_sum + dt * v;
-        tt_sum = tt_sum + dt * dt;
-        i += 1;
+    let mut sums = Sums {
+        v_sum: 0.0,
+        t_sum: 0.0,
+        tv_sum: 0.0,
+        tt_sum: 0.0,
+    };
+    for (b, t) in values.iter().zip(timestamps) {
+        sums = sums.with(ieee::seconds(*t - intercept_time), ieee::value_of(*b));
     }
-    Sums {
-        v_sum,
-        t_sum,
-        tv_sum,
-        tt_sum,
-    }
+    sums
 }
 
 // The line through n readings with these sums.
@@ -90,7 +82,6 @@ fn fit(s: Sums, n: f64) -> Line
 // The line through the readings: NaN twice where there is none; where the values are equal, the first
 // value and no slope.
 pub fn linear_regression(values: &[u64], timestamps: &[i64], intercept_time: i64) -> Line
-    requires timestamps_len { length timestamps.now ≡ length values.now }
     requires by_index { (i : ℕ) → i < length timestamps.now → SFits w64 (get_or timestamps.now i (pos 0) -ℤ intercept_time) }
     ensures { result ≡ regression_of (floats values.now) timestamps.now intercept_time }
 {

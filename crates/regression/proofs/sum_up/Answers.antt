@@ -1,49 +1,44 @@
 -- `regression::sum_up` meets its contract. At each turn, what is summed and what is left make the whole.
 -- Assumes nothing.
-use mathlib.Core.Path.{◌≡◌, refl, sym, ◌∙◌}
-use mathlib.Core.List.{List, [], ◌∷◌}
-use Prim.Native.Nat.{ℕ, ◌<◌, ◌+◌}
-use native.Mathlib.Numerals.{add-one}
-use borrow.Author.Rules.{rules}
+use Rattle.std.proofs.Common.{rules, ◌≡◌, ℕ, List, [], ◌∷◌}
+use mathlib.Core.Logic.{◌⊎◌, inl, inr}
 use lib.IntN.{ℤ, pos, ◌-ℤ◌}
-use Rattle.std.proofs.Common.{SFits, arith}
+use lib.ListN.{length, get_or}
 use mir.Syntax.{w64}
-use mir.Val.{of_z, to_z}
+use mir.Val.{SFits, of_z, to_z}
 use mir.ValLaws.{to_z-of_z}
-use lib.ListN.{length, drop, get_or}
-use lib.Seq.{drop-cons}
 use lib.Ieee.{binary64, of_bits}
+use Rattle.std.proofs.lemmas.Slice.Zip.{Zip-more, zip_turn, either_empty_from_Zip}
 use Rattle.ieee.specs.Patterns.{floats}
 use Rattle.regression.specs.declared.Sums.{Sums}
 use Rattle.regression.specs.Regression.{seconds_from, sums_from, sums_with}
-use Rattle.ieee.proofs.Floats.{floats-cons, floats-none}
 use Rattle.regression.proofs.sum_up.Goals as goal
 
-one_more : (t : ℤ) (s : Sums) (ts : List ℤ) (vs : List ℕ) (i : ℕ) → i < length ts → i < length vs
-    → sums_from t s (drop i ts) (floats (drop i vs)) ≡ sums_from t (sums_with s (seconds_from t (get_or ts i (pos 0))) (of_bits binary64 (get_or vs i 0))) (drop (i + 1) ts) (floats (drop (i + 1) vs))
-unfolding sums_from
-one_more t s ts vs i h k = rw (floats-cons vs i k, add-one i, drop-cons ts i (pos 0) h)
+one_more : (t : ℤ) (s all : Sums) (ts us : List ℤ) (vs ws : List ℕ) (u : ℤ) (b : ℕ) → vs ≡ b ∷ ws → ts ≡ u ∷ us → sums_from t s ts (floats vs) ≡ all
+    → sums_from t (sums_with s (seconds_from t u) (of_bits binary64 b)) us (floats ws) ≡ all
+unfolding sums_from floats
+one_more t s all ts us vs ws u b v w e = rw (v, w) at e
 
-ended : (t : ℤ) (s : Sums) (ts : List ℤ) → sums_from t s ts [] ≡ s
-unfolding sums_from
-ended t s [] = refl
-ended t s (u ∷ us) = refl
+ended : (t : ℤ) (s all : Sums) (ts : List ℤ) (vs : List ℕ) → (vs ≡ []) ⊎ (ts ≡ []) → sums_from t s ts (floats vs) ≡ all → s ≡ all
+unfolding sums_from floats
+ended t s all [] vs (inl v) e = e
+ended t s all (u ∷ us) vs (inl v) e = rw v at e
+ended t s all ts vs (inr w) e = rw w at e
 
-pub loop-i-preserved : goal.loop-i-preserved
-loop-i-preserved c =
-    let ts : List ℤ = c.args.timestamps.now in
-    let i = c.loop-i.i in
-    let sums : Sums = record { v_sum = c.loop-i.v_sum; t_sum = c.loop-i.t_sum; tv_sum = c.loop-i.tv_sum; tt_sum = c.loop-i.tt_sum } in
-    let known = to_z-of_z w64 (get_or ts i (pos 0)) (search rules) in
+pub loop-b-preserved : goal.loop-b-preserved
+loop-b-preserved c =
+    let more = Zip-more c.loop-b.b-iterator c.next.new.self c.next.result (c.in-Some.b, c.in-Some.t) c.in-Some.is c.next.ensures.steps in
+    let turn =
+    zip_turn c.args.values.now c.args.timestamps.now c.loop-b.yielded c.into_iter-b-iterator.result c.loop-b.b-iterator c.next.new.self c.next.result (search rules) (search rules) c.loop-b.yielded_by
+    (c.in-Some.b, c.in-Some.t) c.in-Some.is c.next.ensures.steps in
+    let at_index : c.in-Some.t.now ≡ get_or c.args.timestamps.now (length c.loop-b.yielded) (pos 0) = turn.3 (pos 0) in
+    let known = to_z-of_z w64 c.in-Some.t.now (search rules) in
     let ic = to_z-of_z w64 c.args.intercept_time c.ranges.intercept_time in
-    let less : SFits w64 (to_z w64 (of_z w64 (get_or ts i (pos 0))) -ℤ to_z w64 (of_z w64 c.args.intercept_time)) = rw (known, ic) (c.requires.by_index i (omega arith)) in (
-      search rules,
-      rw (c.value_of-v.ensures, c.seconds-dt.ensures, to_z-of_z w64 _ less, known)
-          (sym (one_more (to_z w64 (of_z w64 c.args.intercept_time)) sums ts c.args.values.now i (omega arith) (omega arith)) ∙ c.loop-i.invariant.1),
-    )
+    let less : SFits w64 (to_z w64 (of_z w64 c.in-Some.t.now) -ℤ to_z w64 (of_z w64 c.args.intercept_time)) = rw (known, ic, at_index) (c.requires.by_index (length c.loop-b.yielded) turn.1) in
+    rw (c.with-sums.ensures, c.seconds.ensures, c.value_of.ensures, to_z-of_z w64 _ less, known)
+    (one_more _ _ _ _ _ _ _ _ _ more.0 more.1 c.loop-b.invariant)
 
 pub returns : goal.returns
 returns c =
-    let sums : Sums = record { v_sum = c.loop-i.v_sum; t_sum = c.loop-i.t_sum; tv_sum = c.loop-i.tv_sum; tt_sum = c.loop-i.tt_sum } in
-    let ic = to_z-of_z w64 c.args.intercept_time c.ranges.intercept_time in
-    rw (floats-none c.args.values.now c.loop-i.i c.loop-i-test.false, ended _ sums (drop c.loop-i.i c.args.timestamps.now), ic) at c.loop-i.invariant.1
+    rw (to_z-of_z w64 c.args.intercept_time c.ranges.intercept_time)
+    at (ended _ _ _ _ _ (either_empty_from_Zip c.loop-b.b-iterator c.next.new.self c.next.result c.in-None.is c.next.ensures.steps) c.loop-b.invariant)
