@@ -1,12 +1,12 @@
 -- The crossings of a limit: the readings whose value is on the other side of it from the one before.
 -- proofs/Indexes.antt shows that the indexes rise, and that an index is listed exactly where the two sides differ.
 -- Assumes nothing.
-use Rattle.std.specs.Prelude.{ℕ, zero, suc, ◌-◌, ◌<◌, Bool, false, not, ◌||◌, List, [], ◌∷◌, ◌++◌, ◌≡◌, refl, eqb, ltb, ℤ, Float, length, get_or, drop}
+use Rattle.std.specs.Prelude.{ℕ, suc, ◌-◌, ◌<◌, Bool, false, not, ◌||◌, List, [], ◌∷◌, ◌++◌, ◌≡◌, refl, eqb, ltb, ℤ, Float, length, get_or, drop}
 use Rattle.std.proofs.Math.Bool.{xor}
 use Rattle.std.specs.Float.{binary64}
 use Rattle.std.specs.Float.Ieee.{lt, of_bits}
 use Rattle.std.specs.Float.Ieee.Scale.{finite}
-use Rattle.times.specs.Readings.{filter}
+use Rattle.std.specs.List.{filter, range_with_len}
 use Rattle.series.specs.Answers.{Outcome, outcome_of}
 use Rattle.series.specs.Refusals.{first_refusal, refused_if}
 use Rattle.series.specs.Rows.{series_checked}
@@ -21,23 +21,18 @@ below limit v = lt (of_bits binary64 v) limit
 abbrev pub crosses : Float → List ℕ → ℕ → Bool
 crosses limit vs i = xor (below limit (get_or vs (i - 1) 0)) (below limit (get_or vs i 0))
 
--- the n numbers from i on
-unfoldable pub up_from : ℕ → ℕ → List ℕ
-up_from i zero = []
-up_from i (suc n) = i ∷ up_from (suc i) n
-
 -- of the indexes from 1 on, the crossings'
 unfoldable pub crossing_indexes : Float → List ℕ → List ℕ
-crossing_indexes limit vs = filter (crosses limit vs) (up_from 1 (length vs - 1))
+crossing_indexes limit vs = filter (crosses limit vs) (range_with_len 1 (length vs - 1))
 
 -- 1.0, 2.0, 3.0 and 1.0 again, and the limit 2.0: a value at the limit is above it
 over-and-under : crossing_indexes (of_bits binary64 0x4000_0000_0000_0000) (0x3FF0_0000_0000_0000 ∷ 0x4000_0000_0000_0000 ∷ 0x4008_0000_0000_0000 ∷ 0x3FF0_0000_0000_0000 ∷ []) ≡ 1 ∷ 3 ∷ []
-unfolding crossing_indexes up_from filter xor lt of_bits
+unfolding crossing_indexes xor lt of_bits
 over-and-under = refl
 
 -- −0.0 is not below the limit 0.0
 zeros : crossing_indexes (of_bits binary64 0) (0x8000_0000_0000_0000 ∷ 0 ∷ 0x8000_0000_0000_0000 ∷ []) ≡ []
-unfolding crossing_indexes up_from filter xor lt of_bits
+unfolding crossing_indexes xor lt of_bits
 zeros = refl
 
 -- ---- what is said of them

@@ -16,51 +16,56 @@ fn is_number(x: f64) -> bool
     ieee::is_finite(ieee::bits_of(x))
 }
 
-// Whether a value of an accepted series is below the limit.
-fn is_below(values: &[u64], i: usize, limit: f64) -> bool
-    requires { (leading finite_bits values.now ≡ length values.now) × (i < length values.now) }
-    ensures { result ≡ below limit (get_or values.now i 0) }
-{
-    ieee::number_of(values[i]) < limit
+// The values of an accepted series, beside a limit.
+#[derive(Drop)]
+struct Sides<'a> {
+    values: &'a [u64],
+    limit: f64,
+    ghost all_finite: { leading finite_bits values.now ≡ length values.now },
 }
 
-// Whether the value at i is on the other side of the limit from the one before.
-fn is_crossing(values: &[u64], i: usize, limit: f64) -> bool
-    requires { (leading finite_bits values.now ≡ length values.now) × (0 < i) × (i < length values.now) }
-    ensures { result ≡ crosses limit values.now i }
-{
-    is_below(values, i - 1, limit) != is_below(values, i, limit)
-}
-
-// How many values are on the other side of the limit from the one before.
-fn count(values: &[u64], limit: f64) -> usize
-    requires { leading finite_bits values.now ≡ length values.now }
-    ensures { result ≡ length (crossing_indexes limit values.now) }
-{
-    let mut n = 0;
-    let mut i = 1;
-    while i < values.len() {
-        if is_crossing(values, i, limit) {
-            n += 1;
-        }
-        i += 1;
+impl Sides<'_> {
+    // Whether the value at i is below the limit.
+    fn is_below(&self, i: usize) -> bool
+        requires { i < length self.now.values.now }
+        ensures { result ≡ below self.now.limit (get_or self.now.values.now i 0) }
+    {
+        ieee::number_of(self.values[i]) < self.limit
     }
-    n
-}
 
-// Writes the crossings' indexes to a slice of their number. An index that is no crossing's is written over by the next one's.
-fn list(values: &[u64], limit: f64, indexes: &mut [u64])
-    requires { (leading finite_bits values.now ≡ length values.now) × (length indexes.old ≡ length (crossing_indexes limit values.now)) }
-    ensures { indexes.new ≡ crossing_indexes limit values.now }
-{
-    let mut k = 0;
-    let mut i = 1;
-    while k < indexes.len() {
-        indexes[k] = i as u64;
-        if is_crossing(values, i, limit) {
-            k += 1;
+    // Whether the value at i is on the other side of the limit from the one before.
+    fn is_crossing(&self, i: usize) -> bool
+        requires { (0 < i) × (i < length self.now.values.now) }
+        ensures { result ≡ crosses self.now.limit self.now.values.now i }
+    {
+        self.is_below(i - 1) != self.is_below(i)
+    }
+
+    // How many values are on the other side of the limit from the one before.
+    #[tactic(auto, unfolding(crate::specs::Crossings::crossing_indexes))]
+    fn count(&self) -> usize
+        ensures { result ≡ length (crossing_indexes self.now.limit self.now.values.now) }
+    {
+        (1..self.values.len())
+            .filter(|i| self.is_crossing(*i))
+            .count()
+    }
+
+    // Writes the crossings' indexes to a slice of their number. An index that is no crossing's is written over by the next one's.
+    fn list(&self, indexes: &mut [u64])
+        requires { length indexes.old ≡ length (crossing_indexes self.now.limit self.now.values.now) }
+        ensures { indexes.new ≡ crossing_indexes self.now.limit self.now.values.now }
+    {
+        let mut k = 0;
+        for i in 1..self.values.len() {
+            if k == indexes.len() {
+                return;
+            }
+            indexes[k] = i as u64;
+            if self.is_crossing(i) {
+                k += 1;
+            }
         }
-        i += 1;
     }
 }
 
@@ -78,10 +83,11 @@ pub fn crossings(
     if !is_number(limit) {
         return Err(Refusal::LimitNotFinite);
     }
-    let n = count(values, limit);
+    let sides = Sides { values, limit };
+    let n = sides.count();
     if indexes.len() < n {
         return Err(Refusal::IndexesShort);
     }
-    list(values, limit, &mut indexes[..n]);
+    sides.list(&mut indexes[..n]);
     Ok(n as u64)
 }

@@ -23,8 +23,8 @@ pub returns-then-not-is_number : goal.returns-then-not-is_number
 unfolding crossings_checked
 returns-then-not-is_number c = rw (← c.is_number.ensures, c.if-not-is_number.true, ← c.check_series.ensures, c.in_ok-check_series.was)
 
-pub count-n-requires : goal.count-n-requires
-count-n-requires c = (accepted-series _ _ (sym c.check_series.ensures ∙ c.in_ok-check_series.was)).all_finite
+pub invariant_of-sides : goal.invariant_of-sides
+invariant_of-sides c = record { all_finite = (accepted-series _ _ (sym c.check_series.ensures ∙ c.in_ok-check_series.was)).all_finite }
 
 pub returns-then-indexes-n : goal.returns-then-indexes-n
 unfolding crossings_checked
@@ -32,8 +32,7 @@ returns-then-indexes-n c =
     rw (← c.count-n.ensures, lt-ltb _ _ c.if-indexes-n.true, ← c.is_number.ensures, c.if-not-is_number.false, ← c.check_series.ensures, c.in_ok-check_series.was)
 
 pub list-requires : goal.list-requires
-list-requires c =
-    ((accepted-series _ _ (sym c.check_series.ensures ∙ c.in_ok-check_series.was)).all_finite, length-take-le _ _ c.if-indexes-n.false ∙ c.count-n.ensures)
+list-requires c = length-take-le _ _ c.if-indexes-n.false ∙ c.count-n.ensures
 
 pub returns : goal.returns
 unfolding crossings_checked
