@@ -1,20 +1,12 @@
 // The crossings of a limit. They are counted before the first is written, since a slice that is too short must stay as it was.
 
 ghost use Rattle.std.specs.Prelude.{◌≡◌, ◌<◌, length, get_or};
-ghost use Rattle.std.specs.Float.Ieee.Scale.{finite};
 ghost use Rattle.times.specs.Leading.{leading};
 ghost use Rattle.series.specs.Answers.{outcome, reply};
 ghost use Rattle.series.specs.Rows.{finite_bits};
 ghost use Rattle.crossings.specs.Crossings.{below, crosses, crossing_indexes, crossings_of};
 
 use series::Refusal;
-
-// Whether x is neither NaN nor infinite.
-fn is_number(x: f64) -> bool
-    ensures { result ≡ finite x }
-{
-    ieee::is_finite(ieee::bits_of(x))
-}
 
 // The values of an accepted series, beside a limit.
 #[derive(Drop)]
@@ -84,7 +76,7 @@ pub fn crossings(
     ensures { outcome (reply result) indexes.new ≡ crossings_of timestamps.now values.now limit indexes.old }
 {
     series::check_series(timestamps, values)?;
-    if !is_number(limit) {
+    if !limit.is_finite() {
         return Err(Refusal::LimitNotFinite);
     }
     let sides = Sides { values, limit };

@@ -3,9 +3,12 @@
 -- Assumes nothing.
 use Prim.Native.Nat.{ℕ}
 use mathlib.Core.List.{List, ◌++◌}
-use mathlib.Core.Path.{sym, ap, ◌∙◌}
+use mathlib.Core.Path.{◌≡◌, refl, sym, ap, ◌∙◌}
 use borrow.Author.Tests.{lt-ltb, le-ltb}
+use lib.Ieee.{Float, nan, inf, fin}
+use lib.Ieee.Scale.{finite}
 use lib.ListN.{drop}
+use Rattle.std.specs.Float.{float_is_finite}
 use lib.Seq.{length-take-le}
 use Rattle.std.proofs.lemmas.Result.{err_from_is_err_and}
 use Rattle.series.proofs.Accepted.{accepted-series}
@@ -13,15 +16,21 @@ use Rattle.series.specs.Answers.{gives, outcome}
 use Rattle.crossings.specs.Crossings.{crossings_checked}
 use Rattle.crossings.proofs.listed.crossings.Goals as goal
 
+finite_is : (x : Float) → float_is_finite x ≡ finite x
+unfolding float_is_finite
+finite_is nan = refl
+finite_is (inf s) = refl
+finite_is (fin s m e) = refl
+
 pub returns-in_err-check_series : goal.returns-in_err-check_series
 unfolding crossings_checked
 returns-in_err-check_series c =
     let p = err_from_is_err_and c.from_residual.result c.from_residual.ensures.1 in
     rw (p.1, p.2, ← c.check_series.ensures, c.in_err-check_series.was)
 
-pub returns-then-not-is_number : goal.returns-then-not-is_number
+pub returns-then-not-is_finite : goal.returns-then-not-is_finite
 unfolding crossings_checked
-returns-then-not-is_number c = rw (← c.is_number.ensures, c.if-not-is_number.true, ← c.check_series.ensures, c.in_ok-check_series.was)
+returns-then-not-is_finite c = rw (← finite_is c.args.limit, ← c.is_finite.ensures.value, c.if-not-is_finite.true, ← c.check_series.ensures, c.in_ok-check_series.was)
 
 pub invariant_of-sides : goal.invariant_of-sides
 invariant_of-sides c = record { all_finite = (accepted-series _ _ (sym c.check_series.ensures ∙ c.in_ok-check_series.was)).all_finite }
@@ -29,7 +38,7 @@ invariant_of-sides c = record { all_finite = (accepted-series _ _ (sym c.check_s
 pub returns-then-indexes-n : goal.returns-then-indexes-n
 unfolding crossings_checked
 returns-then-indexes-n c =
-    rw (← c.count-n.ensures, lt-ltb _ _ c.if-indexes-n.true, ← c.is_number.ensures, c.if-not-is_number.false, ← c.check_series.ensures, c.in_ok-check_series.was)
+    rw (← c.count-n.ensures, lt-ltb _ _ c.if-indexes-n.true, ← finite_is c.args.limit, ← c.is_finite.ensures.value, c.if-not-is_finite.false, ← c.check_series.ensures, c.in_ok-check_series.was)
 
 pub list-requires : goal.list-requires
 list-requires c = length-take-le _ _ c.if-indexes-n.false ∙ c.count-n.ensures
@@ -37,5 +46,5 @@ list-requires c = length-take-le _ _ c.if-indexes-n.false ∙ c.count-n.ensures
 pub returns : goal.returns
 unfolding crossings_checked
 returns c =
-    rw (← c.count-n.ensures, le-ltb _ _ c.if-indexes-n.false, ← c.is_number.ensures, c.if-not-is_number.false, ← c.check_series.ensures, c.in_ok-check_series.was)
+    rw (← c.count-n.ensures, le-ltb _ _ c.if-indexes-n.false, ← finite_is c.args.limit, ← c.is_finite.ensures.value, c.if-not-is_finite.false, ← c.check_series.ensures, c.in_ok-check_series.was)
     (ap (λ (new : List ℕ). outcome (gives c.count-n.result) (new ++ drop c.count-n.result c.args.indexes.now)) c.list.ensures)
