@@ -8,7 +8,8 @@ ghost use Rattle.config.specs.Estimate.{distances, first_intervals, estimate_of}
 
 const MAX_SILENCE_INTERVAL: u64 = 300_000;
 
-// The distance from the time at i to the next.
+// The distance from the time at i to the next. That the times are accepted is asked of the slice itself, here and in the callers up to
+// `settle_settings`: each of them reads the slice, and would have to take it out of a struct that kept the fact.
 fn interval(timestamps: &[i64], i: usize) -> f64
     requires { (times_checked timestamps.now ≡ Ok tt) × (i + 1 < length timestamps.now) }
     ensures { result ≡ of_int binary64 (get_or (distances timestamps.now) i (pos 0)) }
@@ -22,13 +23,9 @@ fn first_intervals(timestamps: &[i64], work: &mut [f64]) -> usize
     ensures count { result ≡ length (first_intervals timestamps.now) }
     ensures front { take result work.new ≡ first_intervals timestamps.now }
 {
-    let mut n = 0;
-    while n < 20 {
-        if n + 1 >= timestamps.len() {
-            return n;
-        }
-        work[n] = interval(timestamps, n);
-        n += 1;
+    let n = timestamps.len().saturating_sub(1).min(20);
+    for i in 0..n {
+        work[i] = interval(timestamps, i);
     }
     n
 }

@@ -31,60 +31,53 @@ pub fn get_max_prev_interval(scrape_interval: u64) -> u64
 fn capped(limit: u64, n: u64) -> u64
     ensures { result ≡ capped_by limit n }
 {
-    if limit > 0 {
-        if n > limit {
-            return limit;
+    if limit > 0 { n.min(limit) } else { n }
+}
+
+// The settings that a window and a reach go by. No length is negative, and a window of 0 stands for the step.
+#[derive(Clone, Copy)]
+pub struct WindowSettings {
+    pub window: u64,
+    pub step: u64,
+    pub may_adjust_window: bool,
+    pub is_default_rollup: bool,
+    pub lookback_delta: u64,
+    pub min_staleness_interval: u64,
+}
+
+impl WindowSettings {
+    // The reach under the settings: capped by a positive lookback delta, then raised to the staleness interval.
+    #[tactic(auto, unfolding(crate::specs::Reach::bounded_reach))]
+    pub fn bounded_reach(self, max_prev_interval: u64) -> u64
+        ensures { result ≡ bounded_reach self.lookback_delta self.min_staleness_interval max_prev_interval }
+    {
+        capped(self.lookback_delta, max_prev_interval).max(self.min_staleness_interval)
+    }
+
+    // The step, raised to the reach if adjusting is on.
+    fn raised_step(self, reach: u64) -> u64
+        ensures { result ≡ raised_step self.step self.may_adjust_window reach }
+    {
+        if self.may_adjust_window {
+            self.step.max(reach)
+        } else {
+            self.step
         }
     }
-    n
-}
 
-// The reach under the settings: capped by a positive lookback delta, then raised to the staleness interval.
-pub fn bounded_reach(
-    lookback_delta: u64,
-    min_staleness_interval: u64,
-    max_prev_interval: u64,
-) -> u64
-    ensures { result ≡ bounded_reach lookback_delta min_staleness_interval max_prev_interval }
-{
-    let reach = capped(lookback_delta, max_prev_interval);
-    if reach < min_staleness_interval {
-        min_staleness_interval
-    } else {
-        reach
-    }
-}
-
-// The step, raised to the reach if adjusting is on.
-fn raised_step(step: u64, may_adjust_window: bool, reach: u64) -> u64
-    ensures { result ≡ raised_step step may_adjust_window reach }
-{
-    if may_adjust_window {
-        if step < reach {
-            return reach;
+    // The window under the settings: one above 0 is kept as given.
+    #[tactic(auto, unfolding(crate::specs::Reach::window_of))]
+    pub fn adjusted_window(self, reach: u64) -> u64
+        ensures { result ≡ window_of self.window self.step self.may_adjust_window self.is_default_rollup self.lookback_delta reach }
+    {
+        if self.window > 0 {
+            return self.window;
         }
-    }
-    step
-}
-
-// The window under the settings: one above 0 is kept as given.
-pub fn adjusted_window(
-    window: u64,
-    step: u64,
-    may_adjust_window: bool,
-    is_default_rollup: bool,
-    lookback_delta: u64,
-    reach: u64,
-) -> u64
-    ensures { result ≡ window_of window step may_adjust_window is_default_rollup lookback_delta reach }
-{
-    if window > 0 {
-        return window;
-    }
-    let raised = raised_step(step, may_adjust_window, reach);
-    if is_default_rollup {
-        capped(lookback_delta, raised)
-    } else {
-        raised
+        let raised = self.raised_step(reach);
+        if self.is_default_rollup {
+            capped(self.lookback_delta, raised)
+        } else {
+            raised
+        }
     }
 }

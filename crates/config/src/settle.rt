@@ -6,6 +6,7 @@ ghost use Rattle.series.specs.Rows.{times_checked};
 ghost use Rattle.settings.specs.Rows.{settings_checked};
 ghost use Rattle.config.specs.Settle.{settlement, settle_of};
 
+use super::reach::WindowSettings;
 use super::{estimate, reach};
 use series::Refusal;
 use settings::RollupConfig;
@@ -25,19 +26,16 @@ fn settle_accepted(timestamps: &[i64], rc: RollupConfig) -> Settlement
 {
     let scrape_interval = estimate::get_scrape_interval(timestamps);
     let max_prev_interval = reach::get_max_prev_interval(scrape_interval);
-    let lookback_delta = rc.lookback_delta as u64;
-    let min_staleness_interval = rc.min_staleness_interval as u64;
-    let far = reach::bounded_reach(lookback_delta, min_staleness_interval, max_prev_interval);
-    let given = rc.window as u64;
-    let step = rc.step as u64;
-    let window = reach::adjusted_window(
-        given,
-        step,
-        rc.may_adjust_window,
-        rc.is_default_rollup,
-        lookback_delta,
-        far,
-    );
+    let by = WindowSettings {
+        window: rc.window as u64,
+        step: rc.step as u64,
+        may_adjust_window: rc.may_adjust_window,
+        is_default_rollup: rc.is_default_rollup,
+        lookback_delta: rc.lookback_delta as u64,
+        min_staleness_interval: rc.min_staleness_interval as u64,
+    };
+    let far = by.bounded_reach(max_prev_interval);
+    let window = by.adjusted_window(far);
     Settlement {
         window: window as i64,
         reach: far as i64,

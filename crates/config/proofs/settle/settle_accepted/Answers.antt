@@ -56,17 +56,17 @@ get_max_prev_interval-max_prev_interval-requires c =
     let ts = c.args.timestamps.now in
     omega (arith, c.get_scrape_interval-scrape_interval.ensures, estimate-small ts (not-falling ts c.requires.0) (within ts c.requires.0))
 
-pub overflow_cast-lookback_delta : goal.overflow_cast-lookback_delta
-overflow_cast-lookback_delta c = castable (settings-passed c.args.rc c.requires.1).lookback
+pub overflow_cast-by-3 : goal.overflow_cast-by-3
+overflow_cast-by-3 c = castable (settings-passed c.args.rc c.requires.1).lookback
 
-pub overflow_cast-min_staleness_interval : goal.overflow_cast-min_staleness_interval
-overflow_cast-min_staleness_interval c = castable (settings-passed c.args.rc c.requires.1).staleness
+pub overflow_cast-by-4 : goal.overflow_cast-by-4
+overflow_cast-by-4 c = castable (settings-passed c.args.rc c.requires.1).staleness
 
-pub overflow_cast-given : goal.overflow_cast-given
-overflow_cast-given c = castable (settings-passed c.args.rc c.requires.1).window
+pub overflow_cast-by : goal.overflow_cast-by
+overflow_cast-by c = castable (settings-passed c.args.rc c.requires.1).window
 
-pub overflow_cast-step : goal.overflow_cast-step
-overflow_cast-step c = castable (settings-passed c.args.rc c.requires.1).step
+pub overflow_cast-by-2 : goal.overflow_cast-by-2
+overflow_cast-by-2 c = castable (settings-passed c.args.rc c.requires.1).step
 
 pub overflow_cast-result : goal.overflow_cast-result
 overflow_cast-result c =
