@@ -2,11 +2,11 @@
 // window's start, and j at or before the output time.
 #![tactic(auto)]
 
-ghost use Rattle.std.specs.Prelude.{◌≡◌, length};
+ghost use Rattle.std.specs.Prelude.{◌≡◌, length, slice_get};
 ghost use Rattle.std.proofs.Math.Option.{get_or};
 ghost use Rattle.std.specs.Int.Signed.{lt_z};
 ghost use Rattle.times.specs.Later.{NotFalling};
-ghost use Rattle.record.specs.Index.{Found, next_at, value_at, value_before, value_if, predecessor_at};
+ghost use Rattle.record.specs.Index.{Found, value_at, value_before, value_if, predecessor_at};
 ghost use Rattle.settings.specs.Course.{Timed};
 ghost use Rattle.record.specs.Record.{readings, record_at};
 
@@ -17,10 +17,9 @@ use window::types::RollupFuncArg;
 fn value_at(values: &[u64], k: usize) -> f64
     ensures { result ≡ value_at values.now k }
 {
-    if k < values.len() {
-        ieee::value_of(values[k])
-    } else {
-        ieee::nan()
+    match values.get(k) {
+        Some(b) => ieee::value_of(*b),
+        None => ieee::nan(),
     }
 }
 
@@ -39,14 +38,10 @@ fn value_before(values: &[u64], k: usize) -> f64
 fn predecessor_time(timestamps: &[i64], i: usize, limit: i64) -> i64
     ensures { result ≡ get_or (predecessor_at timestamps.now i limit) limit }
 {
-    if i == 0 {
+    if i == 0 || timestamps.len() <= i {
         return limit;
     }
-    if timestamps.len() <= i {
-        return limit;
-    }
-    let prev_ts = timestamps[i - 1];
-    if prev_ts > limit { prev_ts } else { limit }
+    timestamps[i - 1].max(limit)
 }
 
 // A value where its time is above the limit, and NaN otherwise.
@@ -56,32 +51,11 @@ fn value_if(time: i64, limit: i64, x: f64) -> f64
     if time > limit { x } else { ieee::nan() }
 }
 
-// What a record holds of the reading after the output time.
-#[derive(Drop)]
-struct Next {
-    value: f64,
-    is_there: bool,
-    time: i64,
-}
-
-// The reading at j; NaN and 0 where there is none.
-fn next_at(timestamps: &[i64], values: &[u64], j: usize) -> Next
-    requires { length timestamps.now ≡ length values.now }
-    ensures { result ≡ next_at timestamps.now values.now j }
+// The time at k, where there is one.
+fn time_at(timestamps: &[i64], k: usize) -> Option<i64>
+    ensures { result ≡ slice_get timestamps.now k }
 {
-    if j < timestamps.len() {
-        Next {
-            value: ieee::value_of(values[j]),
-            is_there: true,
-            time: timestamps[j],
-        }
-    } else {
-        Next {
-            value: ieee::nan(),
-            is_there: false,
-            time: 0,
-        }
-    }
+    timestamps.get(k).copied()
 }
 
 // The record at t_end, for the course's window and reach.
@@ -103,14 +77,14 @@ pub fn record_at(
     let limit = t_start - course.reach;
     let prev_timestamp = predecessor_time(timestamps, i, limit);
     let real_prev_value = value_before(values, i);
-    let next = next_at(timestamps, values, j);
+    let next = time_at(timestamps, j);
     RollupFuncArg {
         prev_value: value_if(prev_timestamp, limit, real_prev_value),
         prev_timestamp,
         real_prev_value,
-        real_next_value: next.value,
-        has_next: next.is_there,
-        next_timestamp: next.time,
+        real_next_value: value_at(values, j),
+        has_next: next.is_some(),
+        next_timestamp: next.unwrap_or(0),
         curr_timestamp: t_end,
         window,
     }
