@@ -2,48 +2,55 @@
 // out, the rest is sorted by `partial_cmp`, and the two values next to the rank are weighted.
 #![tactic(auto)]
 
-ghost use Rattle.std.specs.Prelude.{◌≡◌, ◌++◌, ◌*◌, ◌≤◌, min, length, take, drop};
+ghost use Rattle.std.specs.Prelude.{◌≡◌, ◌++◌, ◌*◌, ◌≤◌, Float, from_bits, length, map, take, drop};
+ghost use Rattle.std.specs.Float.{binary64};
+ghost use Rattle.std.specs.Float.Ieee.{sub};
+ghost use Rattle.ieee.specs.Value.{abs_of};
 ghost use Rattle.ieee.specs.Patterns.{floats};
 ghost use Rattle.sort.specs.Values.{kept};
 ghost use Rattle.order.specs.Order.{Sortable, sorted};
-ghost use Rattle.quantile.specs.Quantile.{deviations, quantile_sorted, quantile_of, median_of, mad_of};
+ghost use Rattle.quantile.specs.Found.{if_number, Finds};
+ghost use Rattle.quantile.specs.Quantile.{quantile_sorted, quantile_of, median_of, mad_of};
 
 use order::Order;
 
-// Copies the values that are no NaN to the front of work, in order, and returns how many there are.
-fn keep(values: &[u64], work: &mut [f64]) -> usize
-    requires { length values.now ≤ length work.old }
-    ensures value { result ≡ length (kept (floats values.now)) }
-    ensures work_after { work.new ≡ kept (floats values.now) ++ drop result work.old }
+// The value of a pattern, where it is no NaN.
+fn number(b: u64) -> Option<f64>
+    ensures { result ≡ if_number (from_bits binary64 b) }
 {
-    let mut n = 0;
-    let mut i = 0;
-    while i < values.len() {
-        let b = values[i];
-        if !ieee::is_nan_pattern(b) {
-            work[n] = ieee::number_of(b);
-            n += 1;
-        }
-        i += 1;
+    if ieee::is_nan_pattern(b) {
+        None
+    } else {
+        Some(ieee::number_of(b))
     }
-    n
 }
 
-// The same of the values' distances from a middle.
-fn keep_deviations(values: &[u64], middle: f64, work: &mut [f64]) -> usize
-    requires { length values.now ≤ length work.old }
-    ensures value { result ≡ length (kept (deviations middle (floats values.now))) }
-    ensures work_after { work.new ≡ kept (deviations middle (floats values.now)) ++ drop result work.old }
+// The distance of a pattern's value from a middle, where it is no NaN.
+fn distance(b: u64, middle: f64) -> Option<f64>
+    ensures { result ≡ if_number (abs_of (sub binary64 (from_bits binary64 b) middle)) }
+{
+    let d = ieee::value_of(b) - middle;
+    if d.is_nan() {
+        None
+    } else {
+        Some(ieee::magnitude(d))
+    }
+}
+
+// Writes the numbers that are found of the values to the front of work, in order, and returns how many there are.
+fn keep<F: Fn(u64) -> Option<f64>>(values: &[u64], work: &mut [f64], find: F) -> usize
+    requires callable { F.IsAlwaysCallable find }
+    requires room { length values.now ≤ length work.old }
+    ensures few { result ≤ length values.now }
+    ensures value { (of : Float → Float) → Finds (F.post find) of → result ≡ length (kept (map of (floats values.now))) }
+    ensures work_after { (of : Float → Float) → Finds (F.post find) of → work.new ≡ kept (map of (floats values.now)) ++ drop result work.old }
 {
     let mut n = 0;
-    let mut i = 0;
-    while i < values.len() {
-        let d = ieee::value_of(values[i]) - middle;
-        if !ieee::is_nan(d) {
-            work[n] = ieee::magnitude(d);
+    for b in values {
+        if let Some(x) = find(*b) {
+            work[n] = x;
             n += 1;
         }
-        i += 1;
     }
     n
 }
@@ -54,31 +61,21 @@ pub fn quantile_sorted(phi: f64, values: &[f64]) -> f64
     ensures { result ≡ quantile_sorted phi values.now }
 {
     let n = values.len();
-    if n == 0 {
-        return ieee::nan();
-    }
-    if ieee::is_nan(phi) {
-        return ieee::nan();
+    if n == 0 || phi.is_nan() {
+        return f64::NAN;
     }
     if phi < 0.0 {
-        return -1.0 / 0.0;
+        return f64::NEG_INFINITY;
     }
     if phi > 1.0 {
-        return 1.0 / 0.0;
+        return f64::INFINITY;
     }
     let rank = phi * ieee::of_count(n - 1);
     let below = ieee::floor(rank);
-    let lower = at_most(ieee::to_usize(below), n - 1);
-    let upper = at_most(lower + 1, n - 1);
+    let lower = ieee::to_usize(below).min(n - 1);
+    let upper = (lower + 1).min(n - 1);
     let weight = rank - below;
     values[lower] * (1.0 - weight) + values[upper] * weight
-}
-
-// The lesser of two counts.
-fn at_most(i: usize, n: usize) -> usize
-    ensures { result ≡ min i n }
-{
-    if i < n { i } else { n }
 }
 
 // The quantile of the first n entries of work, which are no NaN and are left sorted.
@@ -99,7 +96,7 @@ pub fn prepare_for_quantile_float64(values: &[u64], work: &mut [f64]) -> usize
     ensures work_after { take result work.new ≡ sorted Order.Partial (kept (floats values.now)) }
     ensures work_unchanged { drop (2 * length values.now) work.new ≡ drop (2 * length values.now) work.old }
 {
-    let kept = keep(values, work);
+    let kept = keep(values, work, number);
     sort::sort(Order::Partial, &mut work[..2 * kept]);
     kept
 }
@@ -130,6 +127,6 @@ pub fn mad(values: &[u64], work: &mut [f64]) -> f64
     ensures work_unchanged { drop (2 * length values.now) work.new ≡ drop (2 * length values.now) work.old }
 {
     let middle = median(values, work);
-    let n = keep_deviations(values, middle, work);
+    let n = keep(values, work, |b| distance(b, middle));
     quantile_first(0.5, n, work)
 }

@@ -12,7 +12,8 @@ use Rattle.order.specs.Order.{Sortable, sorted}
 use Rattle.order.specs.declared.Order.TheVariants.{Partial}
 use Rattle.sort.specs.Values.{kept}
 use Rattle.sort.proofs.Halves.{first-half, part-first, part-behind}
-use Rattle.quantile.proofs.Kept.{kept-ready, kept-first, kept-behind}
+use borrow.Author.Rules.{rules}
+use Rattle.quantile.proofs.Kept.{map-same, kept-ready, kept-first, kept-behind}
 use Rattle.quantile.proofs.prepare_for_quantile_float64.Goals as goal
 
 -- what is kept, once it is
@@ -22,31 +23,44 @@ ready vs w₀ w n size is room long = kept-ready (floats vs) w₀ w n (length vs
 pub slice_bounds-sort-end : goal.slice_bounds-sort-end
 slice_bounds-sort-end c =
     let k = c.keep-kept in
-    (ready c.args.values.now c.args.work.now k.new.work k.result k.ensures.value k.ensures.work_after c.requires k.auto.work).0
+    let size : k.result ≡ length (kept (floats c.args.values.now)) = k.ensures.value (λ x. x) (search rules) ∙ ap (λ (l : List Float). length (kept l)) (map-same (floats c.args.values.now)) in
+    let is : k.new.work ≡ kept (floats c.args.values.now) ++ drop k.result c.args.work.now = k.ensures.work_after (λ x. x) (search rules) ∙ ap (λ (l : List Float). kept l ++ drop k.result c.args.work.now) (map-same (floats c.args.values.now)) in
+    (ready c.args.values.now c.args.work.now k.new.work k.result size is c.requires k.auto.work).0
 
 pub slice_bounds-sort-end-2 : goal.slice_bounds-sort-end-2
 slice_bounds-sort-end-2 c =
     let k = c.keep-kept in
-    let h = (ready c.args.values.now c.args.work.now k.new.work k.result k.ensures.value k.ensures.work_after c.requires k.auto.work).0 in
+    let size : k.result ≡ length (kept (floats c.args.values.now)) = k.ensures.value (λ x. x) (search rules) ∙ ap (λ (l : List Float). length (kept l)) (map-same (floats c.args.values.now)) in
+    let is : k.new.work ≡ kept (floats c.args.values.now) ++ drop k.result c.args.work.now = k.ensures.work_after (λ x. x) (search rules) ∙ ap (λ (l : List Float). kept l ++ drop k.result c.args.work.now) (map-same (floats c.args.values.now)) in
+    let h = (ready c.args.values.now c.args.work.now k.new.work k.result size is c.requires k.auto.work).0 in
     simp length-take (omega (arith, h))
 
 pub sort-requires : goal.sort-requires
 sort-requires c =
     let k = c.keep-kept in
-    let r = ready c.args.values.now c.args.work.now k.new.work k.result k.ensures.value k.ensures.work_after c.requires k.auto.work in
+    let size : k.result ≡ length (kept (floats c.args.values.now)) = k.ensures.value (λ x. x) (search rules) ∙ ap (λ (l : List Float). length (kept l)) (map-same (floats c.args.values.now)) in
+    let is : k.new.work ≡ kept (floats c.args.values.now) ++ drop k.result c.args.work.now = k.ensures.work_after (λ x. x) (search rules) ∙ ap (λ (l : List Float). kept l ++ drop k.result c.args.work.now) (map-same (floats c.args.values.now)) in
+    let r = ready c.args.values.now c.args.work.now k.new.work k.result size is c.requires k.auto.work in
     rw (first-half k.result k.new.work r.0) r.1
 
 pub returns-clause-work_after : goal.returns-clause-work_after
 returns-clause-work_after c =
     let vs = c.args.values.now in
     let k = c.keep-kept in
-    let room = (ready vs c.args.work.now k.new.work k.result k.ensures.value k.ensures.work_after c.requires k.auto.work).0 in
+    let size : k.result ≡ length (kept (floats c.args.values.now)) = k.ensures.value (λ x. x) (search rules) ∙ ap (λ (l : List Float). length (kept l)) (map-same (floats c.args.values.now)) in
+    let is : k.new.work ≡ kept (floats c.args.values.now) ++ drop k.result c.args.work.now = k.ensures.work_after (λ x. x) (search rules) ∙ ap (λ (l : List Float). kept l ++ drop k.result c.args.work.now) (map-same (floats c.args.values.now)) in
+    let room = (ready vs c.args.work.now k.new.work k.result size is c.requires k.auto.work).0 in
     part-first k.result k.new.work room (sorted Partial) c.sort.new.w c.sort.auto.w c.sort.ensures
-    ∙ ap (sorted Partial) (kept-first (floats vs) c.args.work.now k.new.work k.result (length vs) (length-floats vs) k.ensures.value k.ensures.work_after)
+    ∙ ap (sorted Partial) (kept-first (floats vs) c.args.work.now k.new.work k.result (length vs) (length-floats vs) size is)
 
 pub returns-clause-work_unchanged : goal.returns-clause-work_unchanged
 returns-clause-work_unchanged c =
     let vs = c.args.values.now in
     let k = c.keep-kept in
-    let room = (ready vs c.args.work.now k.new.work k.result k.ensures.value k.ensures.work_after c.requires k.auto.work).0 in
-    kept-behind (floats vs) c.args.work.now k.new.work k.result (length vs) (length-floats vs) k.ensures.value k.ensures.work_after _ (part-behind k.result k.new.work room (sorted Partial) c.sort.new.w c.sort.auto.w)
+    let size : k.result ≡ length (kept (floats c.args.values.now)) = k.ensures.value (λ x. x) (search rules) ∙ ap (λ (l : List Float). length (kept l)) (map-same (floats c.args.values.now)) in
+    let is : k.new.work ≡ kept (floats c.args.values.now) ++ drop k.result c.args.work.now = k.ensures.work_after (λ x. x) (search rules) ∙ ap (λ (l : List Float). kept l ++ drop k.result c.args.work.now) (map-same (floats c.args.values.now)) in
+    let room = (ready vs c.args.work.now k.new.work k.result size is c.requires k.auto.work).0 in
+    kept-behind (floats vs) c.args.work.now k.new.work k.result (length vs) (length-floats vs) size is _ (part-behind k.result k.new.work room (sorted Partial) c.sort.new.w c.sort.auto.w)
+
+pub returns-clause-value : goal.returns-clause-value
+returns-clause-value c = c.keep-kept.ensures.value (λ x. x) (search rules) ∙ ap (λ (l : List Float). length (kept l)) (map-same (floats c.args.values.now))
