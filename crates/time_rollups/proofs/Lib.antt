@@ -1,1 +1,2 @@
 pub mod Candles
+pub mod Pairs

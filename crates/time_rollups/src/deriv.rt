@@ -13,8 +13,7 @@ use window::types::{
 
 // The slope of the regression's line.
 pub fn rollup_deriv_slow(rfa: RollupFuncArg, values: &[u64], timestamps: &[i64]) -> f64
-    requires ranged { Ranged rfa timestamps.now }
-    requires lengths { length timestamps.now ≡ length values.now }
+    requires { Ranged rfa timestamps.now }
     ensures { result ≡ deriv_slow_of rfa (floats values.now) timestamps.now }
 {
     let line = regression::linear_regression(values, timestamps, rfa.curr_timestamp);

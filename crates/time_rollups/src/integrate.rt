@@ -7,35 +7,28 @@ ghost use Rattle.window.specs.Window.{readings};
 ghost use Rattle.time_rollups.specs.Integrate.{area_from, integrate_of};
 
 use ieee::nan;
-use window::types::{
-    RollupFuncArg, first, first_time, rest, rest_times, seconds_between, time_at, value_at,
-};
+use window::types::{RollupFuncArg, first, first_time, rest, rest_times, seconds_between};
 
 // The area from a reading over the window up to the time end.
 fn area(v: f64, t: i64, values: &[u64], timestamps: &[i64], end: i64) -> f64
     requires start { nat_abs t ≤ 2 ^ 55 }
     requires times { AllInRange timestamps.now }
     requires within { InRange end }
-    requires lengths { length timestamps.now ≡ length values.now }
     ensures { result ≡ area_from v t (readings (floats values.now) timestamps.now) end }
 {
     let mut prev_value = v;
     let mut prev_timestamp = t;
     let mut sum = 0.0;
-    let mut i = 0;
-    while i < values.len() {
-        let ts = time_at(timestamps, i);
-        sum = sum + prev_value * seconds_between(prev_timestamp, ts);
-        prev_timestamp = ts;
-        prev_value = value_at(values, i);
-        i += 1;
+    for (b, ts) in values.iter().zip(timestamps) {
+        sum = sum + prev_value * seconds_between(prev_timestamp, *ts);
+        prev_timestamp = *ts;
+        prev_value = ieee::value_of(*b);
     }
     sum + prev_value * seconds_between(prev_timestamp, end)
 }
 
 pub fn rollup_integrate(rfa: RollupFuncArg, values: &[u64], timestamps: &[i64]) -> f64
-    requires ranged { Ranged rfa timestamps.now }
-    requires lengths { length timestamps.now ≡ length values.now }
+    requires { Ranged rfa timestamps.now }
     ensures { result ≡ integrate_of rfa (floats values.now) timestamps.now }
 {
     if ieee::is_nan(rfa.prev_value) {

@@ -24,7 +24,6 @@ fn reaches(down: bool, m: f64, v: f64) -> bool
 
 // The time of the furthest value that way, the last of equals, in seconds.
 fn extreme_time(down: bool, values: &[u64], timestamps: &[i64]) -> f64
-    requires { length timestamps.now ≡ length values.now }
     ensures { result ≡ extreme_time down (floats values.now) timestamps.now }
 {
     if values.len() == 0 {
@@ -32,21 +31,18 @@ fn extreme_time(down: bool, values: &[u64], timestamps: &[i64]) -> f64
     }
     let mut furthest = first(values);
     let mut time = first_time(timestamps);
-    let mut i = 0;
-    while i < values.len() {
-        let v = value_at(values, i);
+    for (b, t) in values.iter().zip(timestamps) {
+        let v = ieee::value_of(*b);
         if reaches(down, furthest, v) {
             furthest = v;
-            time = time_at(timestamps, i);
+            time = *t;
         }
-        i += 1;
     }
     ieee::seconds(time)
 }
 
 // The last time of the minimum, in seconds.
 pub fn rollup_tmin(rfa: RollupFuncArg, values: &[u64], timestamps: &[i64]) -> f64
-    requires { length timestamps.now ≡ length values.now }
     ensures { result ≡ tmin_of (floats values.now) timestamps.now }
 {
     extreme_time(true, values, timestamps)
@@ -54,7 +50,6 @@ pub fn rollup_tmin(rfa: RollupFuncArg, values: &[u64], timestamps: &[i64]) -> f6
 
 // The last time of the maximum, in seconds.
 pub fn rollup_tmax(rfa: RollupFuncArg, values: &[u64], timestamps: &[i64]) -> f64
-    requires { length timestamps.now ≡ length values.now }
     ensures { result ≡ tmax_of (floats values.now) timestamps.now }
 {
     extreme_time(false, values, timestamps)
@@ -84,14 +79,10 @@ pub fn rollup_tlast(rfa: RollupFuncArg, timestamps: &[i64]) -> f64
 fn differing_up_to(values: &[u64], x: f64) -> usize
     ensures { result ≡ up_to_last (λ v. ne v x) (floats values.now) }
 {
-    let mut i = values.len();
-    while i > 0 {
-        if value_at(values, i - 1) != x {
-            return i;
-        }
-        i -= 1;
+    match values.iter().rposition(|b| ieee::value_of(*b) != x) {
+        Some(i) => i + 1,
+        None => 0,
     }
-    0
 }
 
 // How many values stand up to the last one that differs from the window's last value.
@@ -211,8 +202,7 @@ pub fn rollup_predict_linear(
     timestamps: &[i64],
     secs: f64,
 ) -> f64
-    requires ranged { Ranged rfa timestamps.now }
-    requires lengths { length timestamps.now ≡ length values.now }
+    requires { Ranged rfa timestamps.now }
     ensures { result ≡ predict_linear_of rfa (floats values.now) timestamps.now secs }
 {
     predict(

@@ -1,20 +1,15 @@
 use mathlib.Core.List.{foldl}
-use Prim.Native.Nat.{◌-◌, ◌*◌, ◌≤◌}
+use Prim.Native.Nat.{◌*◌, ◌≤◌}
 use Rattle.window.specs.Types.{record_limit}
-use lib.ListN.{length}
 use lib.IntN.{nat_abs}
 use Rattle.ieee.specs.Patterns.{floats}
 use Rattle.window.specs.Window.{readings, zero_f}
-use Rattle.window.proofs.Folds.{Folded}
 use Rattle.time_rollups.specs.Integrate.{extend}
+use Rattle.time_rollups.proofs.Pairs.{Left}
 use Rattle.time_rollups.proofs.integrate.area.Given as goal
 
-abbrev pub invariant-loop-i : goal.invariant-loop-i
-invariant-loop-i l =
-    Folded extend (readings (floats l.values) l.timestamps)
-    (foldl extend (record { value = l.v; time = l.t; sum = zero_f }) (readings (floats l.values) l.timestamps))
-    (record { value = l.prev_value; time = l.prev_timestamp; sum = l.sum }) l.i
+abbrev pub invariant-loop-b : goal.invariant-loop-b
+invariant-loop-b l =
+    Left extend (foldl extend (record { value = l.v; time = l.t; sum = zero_f }) (readings (floats l.values) l.timestamps))
+    (record { value = l.prev_value; time = l.prev_timestamp; sum = l.sum }) l.b-iterator.a.rest.now l.b-iterator.b.rest.now
     × (nat_abs l.prev_timestamp ≤ 2 * record_limit)
-
-abbrev pub decreases-loop-i : goal.decreases-loop-i
-decreases-loop-i l = length l.values - l.i

@@ -1,30 +1,27 @@
--- `time_rollups::rollup_fns::differing_up_to` meets its contract: the values from i on equal x, so those before i decide.
+-- `time_rollups::rollup_fns::differing_up_to` meets its contract: the search from the end finds the last value that differs.
 -- Assumes nothing.
-use borrow.Author.Rules.{rules}
+use Rattle.std.proofs.Common.{ℕ, ◌<◌, ◌≤◌, ◌+◌, ◌≡◌, true, false}
 use native.Mathlib.Omega.{arith}
-use Prim.Native.Nat.{◌-◌, ◌<◌}
-use lib.ListN.{length}
-use lib.Ieee.{nan}
-use Rattle.window.proofs.Searches.{search-starts, search-finds, search-goes-on, search-ends}
+use borrow.Author.Rules.{rules}
+use lib.ListN.{length, get_or}
+use lib.Ieee.{Float, nan, ne, binary64, of_bits}
+use Rattle.ieee.specs.Patterns.{floats}
 use Rattle.ieee.proofs.Floats.{length-floats, get_or-floats}
+use Rattle.window.proofs.Searches.{up-to-none, up-to-found}
 use Rattle.time_rollups.proofs.rollup_fns.differing_up_to.Goals as goal
 
-pub loop-i-init : goal.loop-i-init
-loop-i-init c = (search rules, rw (← length-floats c.args.values.now) (search-starts _))
-
-pub returns-then-value_at-x : goal.returns-then-value_at-x
-returns-then-value_at-x c =
+pub returns-in-Some : goal.returns-in-Some
+returns-in-Some c =
     let l = c.args.values.now in
-    let i = c.loop-i.i in
-    let h : i - 1 < length l = omega arith in
-    search-finds nan c.loop-i.invariant.1 c.loop-i-test.true (rw (get_or-floats l (i - 1) nan h, ← c.value_at.ensures) c.if-value_at-x.true)
+    let i = c.in-Some.i in
+    let found : ne (of_bits binary64 (get_or l i 0)) c.args.x ≡ true = search rules in
+    let within : i < length l = search rules in
+    let past : (k : ℕ) → i + 1 ≤ k → k < length l → ne (of_bits binary64 (get_or l k 0)) c.args.x ≡ false = search rules in
+    up-to-found (λ (v : Float). ne v c.args.x) (floats l) i nan (omega (arith, length-floats l)) (rw (get_or-floats l i nan within) found)
+    (λ k h q. let q' : k < length l = omega (arith, length-floats l) in rw (get_or-floats l k nan q') (past k h q'))
 
-pub loop-i-preserved : goal.loop-i-preserved
-loop-i-preserved c =
+pub returns-in-None : goal.returns-in-None
+returns-in-None c =
     let l = c.args.values.now in
-    let i = c.loop-i.i in
-    let h : i - 1 < length l = omega arith in
-    (search rules, search-goes-on nan c.loop-i.invariant.1 c.loop-i-test.true (rw (get_or-floats l (i - 1) nan h, ← c.value_at.ensures) c.if-value_at-x.false))
-
-pub returns : goal.returns
-returns c = search-ends c.loop-i.invariant.1 c.loop-i-test.false
+    let none : (k : ℕ) → k < length l → ne (of_bits binary64 (get_or l k 0)) c.args.x ≡ false = search rules in
+    up-to-none (λ (v : Float). ne v c.args.x) (floats l) nan (λ k q. let q' : k < length l = omega (arith, length-floats l) in rw (get_or-floats l k nan q') (none k q'))
