@@ -1,10 +1,11 @@
 // The rollups of deriv.rs: how fast a series grows, a second.
 
 ghost use Rattle.std.specs.Prelude.{◌≡◌, length};
-ghost use Rattle.window.specs.Types.{AllInRange, InRange, Ranged};
+ghost use Rattle.window.specs.Types.{AllInRange, InRange};
 ghost use Rattle.ieee.specs.Patterns.{floats};
 ghost use Rattle.time_rollups.specs.Deriv.{deriv_fast_of, deriv_slow_of, ideriv_of, slope_from};
 
+use crate::ranged::RangedWindow;
 use ieee::nan;
 use window::types::{
     RollupFuncArg, count_up_to, first, first_time, last, last_time, seconds_between, time_at,
@@ -12,10 +13,14 @@ use window::types::{
 };
 
 // The slope of the regression's line.
-pub fn rollup_deriv_slow(rfa: RollupFuncArg, values: &[u64], timestamps: &[i64]) -> f64
-    requires { Ranged rfa timestamps.now }
-    ensures { result ≡ deriv_slow_of rfa (floats values.now) timestamps.now }
+pub fn rollup_deriv_slow(ranged: &RangedWindow) -> f64
+    ensures { result ≡ deriv_slow_of ranged.now.rfa (floats ranged.now.values.now) ranged.now.timestamps.now }
 {
+    let RangedWindow {
+        rfa,
+        values,
+        timestamps,
+    } = *ranged;
     let line = regression::linear_regression(values, timestamps, rfa.curr_timestamp);
     line.k
 }
@@ -31,10 +36,14 @@ fn slope(v_start: f64, t_start: i64, values: &[u64], timestamps: &[i64]) -> f64
 }
 
 // From the predecessor, or else from the window's first reading, to its last.
-pub fn rollup_deriv_fast(rfa: RollupFuncArg, values: &[u64], timestamps: &[i64]) -> f64
-    requires { Ranged rfa timestamps.now }
-    ensures { result ≡ deriv_fast_of rfa (floats values.now) timestamps.now }
+pub fn rollup_deriv_fast(ranged: &RangedWindow) -> f64
+    ensures { result ≡ deriv_fast_of ranged.now.rfa (floats ranged.now.values.now) ranged.now.timestamps.now }
 {
+    let RangedWindow {
+        rfa,
+        values,
+        timestamps,
+    } = *ranged;
     if ieee::is_nan(rfa.prev_value) {
         if values.len() < 2 {
             return nan();
@@ -48,11 +57,15 @@ pub fn rollup_deriv_fast(rfa: RollupFuncArg, values: &[u64], timestamps: &[i64])
 }
 
 // From the last reading before the window's last time, or else from the predecessor, to the last.
-pub fn rollup_ideriv(rfa: RollupFuncArg, values: &[u64], timestamps: &[i64]) -> f64
-    requires ranged { Ranged rfa timestamps.now }
-    requires lengths { length timestamps.now ≡ length values.now }
-    ensures { result ≡ ideriv_of rfa (floats values.now) timestamps.now }
+pub fn rollup_ideriv(ranged: &RangedWindow) -> f64
+    requires lengths { length ranged.now.timestamps.now ≡ length ranged.now.values.now }
+    ensures { result ≡ ideriv_of ranged.now.rfa (floats ranged.now.values.now) ranged.now.timestamps.now }
 {
+    let RangedWindow {
+        rfa,
+        values,
+        timestamps,
+    } = *ranged;
     if values.len() == 0 {
         return nan();
     }

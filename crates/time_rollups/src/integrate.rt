@@ -1,11 +1,12 @@
 // The rollup of integrate.rs: each value times the seconds it stood.
 
 ghost use Rattle.std.specs.Prelude.{◌≡◌, ◌≤◌, ◌^◌, length, nat_abs};
-ghost use Rattle.window.specs.Types.{AllInRange, InRange, Ranged};
+ghost use Rattle.window.specs.Types.{AllInRange, InRange};
 ghost use Rattle.ieee.specs.Patterns.{floats};
 ghost use Rattle.window.specs.Window.{readings};
 ghost use Rattle.time_rollups.specs.Integrate.{area_from, integrate_of};
 
+use crate::ranged::RangedWindow;
 use ieee::nan;
 use window::types::{RollupFuncArg, first, first_time, rest, rest_times, seconds_between};
 
@@ -27,10 +28,14 @@ fn area(v: f64, t: i64, values: &[u64], timestamps: &[i64], end: i64) -> f64
     sum + prev_value * seconds_between(prev_timestamp, end)
 }
 
-pub fn rollup_integrate(rfa: RollupFuncArg, values: &[u64], timestamps: &[i64]) -> f64
-    requires { Ranged rfa timestamps.now }
-    ensures { result ≡ integrate_of rfa (floats values.now) timestamps.now }
+pub fn rollup_integrate(ranged: &RangedWindow) -> f64
+    ensures { result ≡ integrate_of ranged.now.rfa (floats ranged.now.values.now) ranged.now.timestamps.now }
 {
+    let RangedWindow {
+        rfa,
+        values,
+        timestamps,
+    } = *ranged;
     if ieee::is_nan(rfa.prev_value) {
         if values.len() == 0 {
             return nan();

@@ -4,5 +4,6 @@
 pub mod candlestick;
 pub mod deriv;
 pub mod integrate;
+pub mod ranged;
 pub mod rollup_fns;
 pub mod until_next;

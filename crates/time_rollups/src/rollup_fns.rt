@@ -3,11 +3,11 @@
 ghost use Rattle.std.specs.Prelude.{◌≡◌, ◌-◌, ◌≤◌, length};
 ghost use Rattle.std.specs.Float.Ieee.{ne};
 ghost use Rattle.math.specs.Deviation.{stddev_of};
-ghost use Rattle.window.specs.Types.{Ranged};
 ghost use Rattle.ieee.specs.Patterns.{floats};
 ghost use Rattle.window.specs.Window.{up_to_last};
 ghost use Rattle.time_rollups.specs.RollupFns.{at_least, changed_up_to, extreme_time, lag_of, lifetime_of, predict_from, predict_linear_of, scrape_interval_of, tfirst_of, tlast_change_of, tlast_of, tmax_of, tmin_of, zscore_from, zscore_over_time_of};
 
+use crate::ranged::RangedWindow;
 use ieee::nan;
 use regression::Line;
 use value_rollups::rollup_fns::rollup_avg;
@@ -113,10 +113,14 @@ pub fn rollup_tlast_change(rfa: RollupFuncArg, values: &[u64], timestamps: &[i64
 }
 
 // The seconds from the predecessor, or else from the first reading, to the last.
-pub fn rollup_lifetime(rfa: RollupFuncArg, timestamps: &[i64]) -> f64
-    requires { Ranged rfa timestamps.now }
-    ensures { result ≡ lifetime_of rfa timestamps.now }
+pub fn rollup_lifetime(ranged: &RangedWindow) -> f64
+    ensures { result ≡ lifetime_of ranged.now.rfa ranged.now.timestamps.now }
 {
+    let RangedWindow {
+        rfa,
+        timestamps,
+        ..
+    } = *ranged;
     if ieee::is_nan(rfa.prev_value) {
         if timestamps.len() < 2 {
             return nan();
@@ -130,24 +134,32 @@ pub fn rollup_lifetime(rfa: RollupFuncArg, timestamps: &[i64]) -> f64
 }
 
 // The average interval between readings.
-pub fn rollup_scrape_interval(rfa: RollupFuncArg, timestamps: &[i64]) -> f64
-    requires { Ranged rfa timestamps.now }
-    ensures { result ≡ scrape_interval_of rfa timestamps.now }
+pub fn rollup_scrape_interval(ranged: &RangedWindow) -> f64
+    ensures { result ≡ scrape_interval_of ranged.now.rfa ranged.now.timestamps.now }
 {
+    let RangedWindow {
+        rfa,
+        timestamps,
+        ..
+    } = *ranged;
     if ieee::is_nan(rfa.prev_value) {
         if timestamps.len() < 2 {
             return nan();
         }
-        return rollup_lifetime(rfa, timestamps) / ieee::of_count(timestamps.len() - 1);
+        return rollup_lifetime(ranged) / ieee::of_count(timestamps.len() - 1);
     }
-    rollup_lifetime(rfa, timestamps) / ieee::of_count(timestamps.len())
+    rollup_lifetime(ranged) / ieee::of_count(timestamps.len())
 }
 
 // The seconds from the output time back to the last reading.
-pub fn rollup_lag(rfa: RollupFuncArg, timestamps: &[i64]) -> f64
-    requires { Ranged rfa timestamps.now }
-    ensures { result ≡ lag_of rfa timestamps.now }
+pub fn rollup_lag(ranged: &RangedWindow) -> f64
+    ensures { result ≡ lag_of ranged.now.rfa ranged.now.timestamps.now }
 {
+    let RangedWindow {
+        rfa,
+        timestamps,
+        ..
+    } = *ranged;
     if timestamps.len() == 0 {
         if ieee::is_nan(rfa.prev_value) {
             return nan();
@@ -168,12 +180,12 @@ fn zscore_of(d: f64, values: &[u64]) -> f64
 }
 
 // How far the last value lies from the average, in standard deviations.
-pub fn rollup_zscore_over_time(rfa: RollupFuncArg, values: &[u64], timestamps: &[i64]) -> f64
-    requires { Ranged rfa timestamps.now }
-    ensures { result ≡ zscore_over_time_of rfa (floats values.now) timestamps.now }
+pub fn rollup_zscore_over_time(ranged: &RangedWindow) -> f64
+    ensures { result ≡ zscore_over_time_of ranged.now.rfa (floats ranged.now.values.now) ranged.now.timestamps.now }
 {
-    let scrape_interval = rollup_scrape_interval(rfa, timestamps);
-    let lag = rollup_lag(rfa, timestamps);
+    let RangedWindow { rfa, values, .. } = *ranged;
+    let scrape_interval = rollup_scrape_interval(ranged);
+    let lag = rollup_lag(ranged);
     if ieee::is_nan(scrape_interval) {
         return nan();
     }
@@ -196,15 +208,14 @@ fn predict(line: Line, secs: f64) -> f64
     line.v + line.k * secs
 }
 
-pub fn rollup_predict_linear(
-    rfa: RollupFuncArg,
-    values: &[u64],
-    timestamps: &[i64],
-    secs: f64,
-) -> f64
-    requires { Ranged rfa timestamps.now }
-    ensures { result ≡ predict_linear_of rfa (floats values.now) timestamps.now secs }
+pub fn rollup_predict_linear(ranged: &RangedWindow, secs: f64) -> f64
+    ensures { result ≡ predict_linear_of ranged.now.rfa (floats ranged.now.values.now) ranged.now.timestamps.now secs }
 {
+    let RangedWindow {
+        rfa,
+        values,
+        timestamps,
+    } = *ranged;
     predict(
         regression::linear_regression(values, timestamps, rfa.curr_timestamp),
         secs,

@@ -19,8 +19,8 @@ tested r ts h = simp (back r.prev_timestamp h.prev, back r.window h.window, back
 
 pub returns-then-is_before : goal.returns-then-is_before
 unfolding first_candle
-returns-then-is_before c = rw (← tested _ _ c.requires, ← c.is_before.ensures, c.if-is_before.true) c.nan.ensures
+returns-then-is_before c = rw (← tested _ _ c.args.ranged.now.in_range, ← c.is_before.ensures, c.if-is_before.true) c.nan.ensures
 
 pub returns : goal.returns
 unfolding first_candle
-returns c = rw (← tested _ _ c.requires, ← c.is_before.ensures, c.if-is_before.false)
+returns c = rw (← tested _ _ c.args.ranged.now.in_range, ← c.is_before.ensures, c.if-is_before.false)

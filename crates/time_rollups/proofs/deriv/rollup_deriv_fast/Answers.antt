@@ -14,8 +14,8 @@ returns-then-values-lt2 c = rw (← c.is_nan.ensures, c.if-is_nan.true, length-f
 
 pub slope-requires : goal.slope-requires
 slope-requires c = record {
-  start = rw (read_back c.first_time.result c.first_time.type_inv, c.first_time.ensures) (first-ranged c.requires);
-  times = c.requires.times;
+  start = rw (read_back c.first_time.result c.first_time.type_inv, c.first_time.ensures) (first-ranged c.args.ranged.now.in_range);
+  times = c.args.ranged.now.in_range.times;
 }
 
 pub returns-then-is_nan : goal.returns-then-is_nan
@@ -32,4 +32,4 @@ pub returns : goal.returns
 unfolding deriv_fast_of
 returns c =
     rw (← c.is_nan.ensures, c.if-is_nan.false, some-values _ c.if-values-eq0.false)
-    (rw (back c.args.rfa.prev_timestamp c.requires.prev) at c.slope-2.ensures)
+    (rw (back c.args.ranged.now.rfa.prev_timestamp c.args.ranged.now.in_range.prev) at c.slope-2.ensures)

@@ -9,4 +9,4 @@ use Rattle.time_rollups.proofs.deriv.rollup_deriv_slow.Goals as goal
 pub returns : goal.returns
 unfolding deriv_slow_of
 returns c =
-    ap (λ (line : Line). line.k) (rw (back c.args.rfa.curr_timestamp c.requires.curr) at c.linear_regression-line.ensures)
+    ap (λ (line : Line). line.k) (rw (back c.args.ranged.now.rfa.curr_timestamp c.args.ranged.now.in_range.curr) at c.linear_regression-line.ensures)

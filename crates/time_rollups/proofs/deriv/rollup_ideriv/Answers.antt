@@ -40,7 +40,7 @@ time_at-requires c = omega (arith, within _ _ (counted _ _ _ c.count_up_to-count
 pub returns-then-count-gt0 : goal.returns-then-count-gt0
 unfolding ideriv_of
 returns-then-count-gt0 c =
-    let l = c.args.values.now in
+    let l = c.args.ranged.now.values.now in
     let n = c.count_up_to-count.result in
     let h : n - 1 < length l = omega (arith, within _ _ (counted _ _ _ c.count_up_to-count.ensures c.last_time.type_inv c.last_time.ensures), c.requires.lengths) in
     rw (some-values _ c.if-values-eq0.false, ← counted _ _ _ c.count_up_to-count.ensures c.last_time.type_inv c.last_time.ensures, pos-eqb n c.if-count-gt0.true, get_or-floats l (n - 1) nan h, ← c.value_at.ensures, ← c.time_at.ensures)
@@ -60,4 +60,4 @@ pub returns : goal.returns
 unfolding ideriv_of
 returns c =
     rw (some-values _ c.if-values-eq0.false, ← counted _ _ _ c.count_up_to-count.ensures c.last_time.type_inv c.last_time.ensures, zero-eqb _ c.if-count-gt0.false, ← c.is_nan.ensures, c.if-is_nan.false)
-    (rw (back c.args.rfa.prev_timestamp c.requires.ranged.prev) at c.slope-2.ensures)
+    (rw (back c.args.ranged.now.rfa.prev_timestamp c.args.ranged.now.in_range.prev) at c.slope-2.ensures)

@@ -16,14 +16,14 @@ pub returns-then-timestamps-eq0 : goal.returns-then-timestamps-eq0
 unfolding lag_of
 returns-then-timestamps-eq0 c =
     rw (none _ c.if-timestamps-eq0.true, ← c.is_nan.ensures, c.if-is_nan.false)
-    (rw (back c.args.rfa.curr_timestamp c.requires.curr, back c.args.rfa.prev_timestamp c.requires.prev) at c.seconds_between.ensures)
+    (rw (back c.args.ranged.now.rfa.curr_timestamp c.args.ranged.now.in_range.curr, back c.args.ranged.now.rfa.prev_timestamp c.args.ranged.now.in_range.prev) at c.seconds_between.ensures)
 
 pub seconds_between-requires-2 : goal.seconds_between-requires-2
 seconds_between-requires-2 c =
-    rw c.last_time.ensures (apart c.args.rfa.curr_timestamp (last_or (pos 0) c.args.timestamps.now) c.requires.curr (last-ranged c.requires))
+    rw c.last_time.ensures (apart c.args.ranged.now.rfa.curr_timestamp (last_or (pos 0) c.args.ranged.now.timestamps.now) c.args.ranged.now.in_range.curr (last-ranged c.args.ranged.now.in_range))
 
 pub returns : goal.returns
 unfolding lag_of
 returns c =
     rw (some _ c.if-timestamps-eq0.false, ← c.last_time.ensures)
-    (rw (back c.args.rfa.curr_timestamp c.requires.curr, read_back c.last_time.result c.last_time.type_inv) at c.seconds_between-2.ensures)
+    (rw (back c.args.ranged.now.rfa.curr_timestamp c.args.ranged.now.in_range.curr, read_back c.last_time.result c.last_time.type_inv) at c.seconds_between-2.ensures)

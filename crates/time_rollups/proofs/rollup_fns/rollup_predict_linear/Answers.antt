@@ -7,5 +7,5 @@ use Rattle.time_rollups.proofs.rollup_fns.rollup_predict_linear.Goals as goal
 pub returns : goal.returns
 unfolding predict_linear_of
 returns c =
-    let e = rw (back c.args.rfa.curr_timestamp c.requires.curr) at c.linear_regression.ensures in
+    let e = rw (back c.args.ranged.now.rfa.curr_timestamp c.args.ranged.now.in_range.curr) at c.linear_regression.ensures in
     rw (← e) c.predict.ensures
