@@ -12,6 +12,7 @@ use change_rollups::rollup_fns::{
 use time_rollups::candlestick::{rollup_close, rollup_high, rollup_low, rollup_open};
 use time_rollups::deriv::{rollup_deriv_fast, rollup_deriv_slow, rollup_ideriv};
 use time_rollups::integrate::rollup_integrate;
+use time_rollups::ranged::RangedWindow;
 use time_rollups::rollup_fns::{
     rollup_lag, rollup_lifetime, rollup_predict_linear, rollup_scrape_interval, rollup_tfirst,
     rollup_tlast, rollup_tlast_change, rollup_tmax, rollup_tmin, rollup_zscore_over_time,
@@ -91,6 +92,11 @@ fn figure(
     requires { Ready rfa values.now timestamps.now (length work.old) }
     ensures { result ≡ figure_of handler rfa (floats values.now) timestamps.now }
 {
+    let ranged = RangedWindow {
+        rfa,
+        values,
+        timestamps,
+    };
     match handler {
         RollupHandler::Avg => rollup_avg(rfa, values),
         RollupHandler::Min => rollup_min(rfa, values),
@@ -112,9 +118,9 @@ fn figure(
         RollupHandler::Stddev => rollup_stddev(rfa, values),
         RollupHandler::Stdvar => rollup_stdvar(rfa, values),
         RollupHandler::IncreasePure => rollup_increase_pure(rfa, values),
-        RollupHandler::Lifetime => rollup_lifetime(rfa, timestamps),
-        RollupHandler::Lag => rollup_lag(rfa, timestamps),
-        RollupHandler::ScrapeInterval => rollup_scrape_interval(rfa, timestamps),
+        RollupHandler::Lifetime => rollup_lifetime(&ranged),
+        RollupHandler::Lag => rollup_lag(&ranged),
+        RollupHandler::ScrapeInterval => rollup_scrape_interval(&ranged),
         RollupHandler::Changes => rollup_changes(rfa, values),
         RollupHandler::ChangesPrometheus => rollup_changes_prometheus(rfa, values),
         RollupHandler::Increases => rollup_increases(rfa, values),
@@ -122,23 +128,23 @@ fn figure(
         RollupHandler::ModeOverTime => rollup_mode_over_time(rfa, values, work),
         RollupHandler::AscentOverTime => rollup_ascent_over_time(rfa, values),
         RollupHandler::DescentOverTime => rollup_descent_over_time(rfa, values),
-        RollupHandler::ZscoreOverTime => rollup_zscore_over_time(rfa, values, timestamps),
+        RollupHandler::ZscoreOverTime => rollup_zscore_over_time(&ranged),
         RollupHandler::First => rollup_first(rfa, values),
         RollupHandler::Default => rollup_default(rfa, values),
         RollupHandler::Distinct => rollup_distinct(rfa, values, work),
-        RollupHandler::DerivSlow => rollup_deriv_slow(rfa, values, timestamps),
-        RollupHandler::DerivFast => rollup_deriv_fast(rfa, values, timestamps),
-        RollupHandler::Ideriv => rollup_ideriv(rfa, values, timestamps),
+        RollupHandler::DerivSlow => rollup_deriv_slow(&ranged),
+        RollupHandler::DerivFast => rollup_deriv_fast(&ranged),
+        RollupHandler::Ideriv => rollup_ideriv(&ranged),
         RollupHandler::Delta => rollup_delta(rfa, values),
         RollupHandler::DeltaPrometheus => rollup_delta_prometheus(rfa, values),
         RollupHandler::Idelta => rollup_idelta(rfa, values),
-        RollupHandler::Open => rollup_open(rfa, values, timestamps),
-        RollupHandler::Close => rollup_close(rfa, values, timestamps),
-        RollupHandler::High => rollup_high(rfa, values, timestamps),
-        RollupHandler::Low => rollup_low(rfa, values, timestamps),
-        RollupHandler::Integrate => rollup_integrate(rfa, values, timestamps),
+        RollupHandler::Open => rollup_open(&ranged),
+        RollupHandler::Close => rollup_close(&ranged),
+        RollupHandler::High => rollup_high(&ranged),
+        RollupHandler::Low => rollup_low(&ranged),
+        RollupHandler::Integrate => rollup_integrate(&ranged),
         RollupHandler::Quantile(phi) => rollup_quantile(rfa, values, work, phi),
-        RollupHandler::PredictLinear(secs) => rollup_predict_linear(rfa, values, timestamps, secs),
+        RollupHandler::PredictLinear(secs) => rollup_predict_linear(&ranged, secs),
         RollupHandler::HoltWinters(sf, tf) => holt_winters_internal(rfa, values, sf, tf),
         RollupHandler::UntilNext => rollup_until_next(rfa),
     }
@@ -166,54 +172,54 @@ pub fn rollup_samples_scanned_per_call(handler: RollupHandler) -> usize
     ensures { result ≡ scanned_per_call handler }
 {
     match handler {
-        RollupHandler::Avg => 0,
-        RollupHandler::Min => 0,
-        RollupHandler::Max => 0,
-        RollupHandler::Mad => 0,
-        RollupHandler::Median => 0,
-        RollupHandler::Tmin => 0,
-        RollupHandler::Tmax => 0,
-        RollupHandler::Tfirst => 1,
-        RollupHandler::Tlast => 1,
-        RollupHandler::TlastChange => 0,
-        RollupHandler::Sum => 0,
-        RollupHandler::Sum2 => 0,
-        RollupHandler::RateOverSum => 0,
-        RollupHandler::Range => 0,
-        RollupHandler::Absent => 1,
-        RollupHandler::Present => 1,
-        RollupHandler::Count => 1,
-        RollupHandler::Stddev => 0,
-        RollupHandler::Stdvar => 0,
-        RollupHandler::IncreasePure => 2,
-        RollupHandler::Lifetime => 2,
-        RollupHandler::Lag => 1,
-        RollupHandler::ScrapeInterval => 2,
-        RollupHandler::Changes => 0,
-        RollupHandler::ChangesPrometheus => 0,
-        RollupHandler::Increases => 0,
-        RollupHandler::Resets => 0,
-        RollupHandler::ModeOverTime => 0,
-        RollupHandler::AscentOverTime => 0,
-        RollupHandler::DescentOverTime => 0,
-        RollupHandler::ZscoreOverTime => 0,
-        RollupHandler::First => 1,
-        RollupHandler::Default => 1,
-        RollupHandler::Distinct => 0,
-        RollupHandler::DerivSlow => 0,
-        RollupHandler::DerivFast => 2,
-        RollupHandler::Ideriv => 2,
-        RollupHandler::Delta => 2,
-        RollupHandler::DeltaPrometheus => 2,
-        RollupHandler::Idelta => 2,
-        RollupHandler::Open => 0,
-        RollupHandler::Close => 0,
-        RollupHandler::High => 0,
-        RollupHandler::Low => 0,
-        RollupHandler::Integrate => 0,
-        RollupHandler::Quantile(_) => 0,
-        RollupHandler::PredictLinear(_) => 0,
-        RollupHandler::HoltWinters(_, _) => 0,
-        RollupHandler::UntilNext => 1,
+        RollupHandler::Avg
+        | RollupHandler::Min
+        | RollupHandler::Max
+        | RollupHandler::Mad
+        | RollupHandler::Median
+        | RollupHandler::Tmin
+        | RollupHandler::Tmax
+        | RollupHandler::TlastChange
+        | RollupHandler::Sum
+        | RollupHandler::Sum2
+        | RollupHandler::RateOverSum
+        | RollupHandler::Range
+        | RollupHandler::Stddev
+        | RollupHandler::Stdvar
+        | RollupHandler::Changes
+        | RollupHandler::ChangesPrometheus
+        | RollupHandler::Increases
+        | RollupHandler::Resets
+        | RollupHandler::ModeOverTime
+        | RollupHandler::AscentOverTime
+        | RollupHandler::DescentOverTime
+        | RollupHandler::ZscoreOverTime
+        | RollupHandler::Distinct
+        | RollupHandler::DerivSlow
+        | RollupHandler::Open
+        | RollupHandler::Close
+        | RollupHandler::High
+        | RollupHandler::Low
+        | RollupHandler::Integrate
+        | RollupHandler::Quantile(_)
+        | RollupHandler::PredictLinear(_)
+        | RollupHandler::HoltWinters(_, _) => 0,
+        RollupHandler::Tfirst
+        | RollupHandler::Tlast
+        | RollupHandler::Absent
+        | RollupHandler::Present
+        | RollupHandler::Count
+        | RollupHandler::Lag
+        | RollupHandler::First
+        | RollupHandler::Default
+        | RollupHandler::UntilNext => 1,
+        RollupHandler::IncreasePure
+        | RollupHandler::Lifetime
+        | RollupHandler::ScrapeInterval
+        | RollupHandler::DerivFast
+        | RollupHandler::Ideriv
+        | RollupHandler::Delta
+        | RollupHandler::DeltaPrometheus
+        | RollupHandler::Idelta => 2,
     }
 }
