@@ -5,7 +5,7 @@ ghost use Rattle.ieee.specs.Patterns.{floats};
 ghost use Rattle.value_rollups.specs.HoltWinters.{holt_winters_of, out_of_range, smooth_from};
 
 use ieee::nan;
-use window::types::{RollupFuncArg, first, rest, value_at};
+use window::types::{RollupFuncArg, first, rest};
 
 // Whether a factor lies at or below 0.0, or at or above 1.0.
 fn out_of_range(x: f64) -> bool
@@ -24,16 +24,12 @@ fn smooth_from(sf: f64, tf: f64, s: f64, values: &[u64]) -> f64
     if values.len() == 0 {
         return nan();
     }
-    let mut s0 = s;
-    let mut b0 = first(values) - s;
-    let mut i = 0;
-    while i < values.len() {
-        let s1 = sf * value_at(values, i) + (1.0 - sf) * (s0 + b0);
-        b0 = tf * (s1 - s0) + (1.0 - tf) * b0;
-        s0 = s1;
-        i += 1;
-    }
-    s0
+    let start = (s, first(values) - s);
+    let (level, _) = values.iter().fold(start, |(s0, b0), b| {
+        let s1 = sf * ieee::value_of(*b) + (1.0 - sf) * (s0 + b0);
+        (s1, tf * (s1 - s0) + (1.0 - tf) * b0)
+    });
+    level
 }
 
 // The predecessor for an empty window; NaN for factors out of range, and for one reading without predecessor.

@@ -7,22 +7,16 @@ ghost use Rattle.math.specs.Mode.{mode_of};
 ghost use Rattle.quantile.specs.Quantile.{mad_of, median_of};
 ghost use Rattle.ieee.specs.Patterns.{floats};
 ghost use Rattle.window.specs.Window.{beyond, first_of, further, last_of};
-ghost use Rattle.value_rollups.specs.RollupFns.{absent_of, avg_of, count_of, distinct_from, distinct_of, max_of, min_of, present_of, range_of, rate_over_sum_of, sum2_of, sum_of, total_of};
+ghost use Rattle.value_rollups.specs.RollupFns.{absent_of, avg_of, count_of, distinct_from, distinct_of, max_of, min_of, no_lesser, present_of, range_of, rate_over_sum_of, sum2_of, sum_of, total_of};
 
 use ieee::nan;
-use window::types::{RollupFuncArg, first, last, value_at};
+use window::types::{RollupFuncArg, first, last, rest};
 
 // The values added up from +0.0.
 fn total(values: &[u64]) -> f64
     ensures { result ≡ total_of (floats values.now) }
 {
-    let mut sum = 0.0;
-    let mut i = 0;
-    while i < values.len() {
-        sum = sum + value_at(values, i);
-        i += 1;
-    }
-    sum
+    values.iter().fold(0.0, |sum, b| sum + ieee::value_of(*b))
 }
 
 pub fn rollup_avg(rfa: RollupFuncArg, values: &[u64]) -> f64
@@ -41,20 +35,20 @@ pub fn is_beyond(down: bool, m: f64, v: f64) -> bool
     if down { v < m } else { m < v }
 }
 
+// m, or v where it lies beyond m.
+fn further(down: bool, m: f64, v: f64) -> f64
+    ensures { result ≡ further down m v }
+{
+    if is_beyond(down, m, v) { v } else { m }
+}
+
 // The furthest value that way, from m on: replaced only by one that lies beyond it.
 pub fn extreme(down: bool, m: f64, values: &[u64]) -> f64
     ensures { result ≡ foldl (further down) m (floats values.now) }
 {
-    let mut furthest = m;
-    let mut i = 0;
-    while i < values.len() {
-        let v = value_at(values, i);
-        if is_beyond(down, furthest, v) {
-            furthest = v;
-        }
-        i += 1;
-    }
-    furthest
+    values.iter().fold(m, |furthest, b| {
+        further(down, furthest, ieee::value_of(*b))
+    })
 }
 
 // The least value, the first of equals.
@@ -67,6 +61,13 @@ pub fn rollup_min(rfa: RollupFuncArg, values: &[u64]) -> f64
     extreme(true, first(values), values)
 }
 
+// The greater of two, v where they are equal.
+fn no_lesser(m: f64, v: f64) -> f64
+    ensures { result ≡ no_lesser m v }
+{
+    if v < m { m } else { v }
+}
+
 // The greatest value, the last of equals.
 pub fn rollup_max(rfa: RollupFuncArg, values: &[u64]) -> f64
     ensures { result ≡ max_of (floats values.now) }
@@ -74,16 +75,9 @@ pub fn rollup_max(rfa: RollupFuncArg, values: &[u64]) -> f64
     if values.len() == 0 {
         return nan();
     }
-    let mut max_value = first(values);
-    let mut i = 1;
-    while i < values.len() {
-        let v = value_at(values, i);
-        if !(v < max_value) {
-            max_value = v;
-        }
-        i += 1;
-    }
-    max_value
+    rest(values).iter().fold(first(values), |max_value, b| {
+        no_lesser(max_value, ieee::value_of(*b))
+    })
 }
 
 // The median absolute deviation.
@@ -126,14 +120,10 @@ pub fn rollup_sum2(rfa: RollupFuncArg, values: &[u64]) -> f64
     if values.len() == 0 {
         return nan();
     }
-    let mut squares = 0.0;
-    let mut i = 0;
-    while i < values.len() {
-        let v = value_at(values, i);
-        squares = squares + v * v;
-        i += 1;
-    }
-    squares
+    values.iter().fold(0.0, |squares, b| {
+        let v = ieee::value_of(*b);
+        squares + v * v
+    })
 }
 
 // The greatest value less the least.
@@ -143,19 +133,11 @@ pub fn rollup_range(rfa: RollupFuncArg, values: &[u64]) -> f64
     if values.len() == 0 {
         return nan();
     }
-    let mut max = first(values);
-    let mut min = max;
-    let mut i = 0;
-    while i < values.len() {
-        let v = value_at(values, i);
-        if is_beyond(false, max, v) {
-            max = v;
-        }
-        if is_beyond(true, min, v) {
-            min = v;
-        }
-        i += 1;
-    }
+    let start = first(values);
+    let (max, min) = values.iter().fold((start, start), |(max, min), b| {
+        let v = ieee::value_of(*b);
+        (further(false, max, v), further(true, min, v))
+    });
     max - min
 }
 
@@ -229,14 +211,11 @@ fn count_distinct(sorted: &[f64]) -> usize
 {
     let mut kept = sorted[0];
     let mut n = 1;
-    let mut i = 1;
-    while i < sorted.len() {
-        let v = sorted[i];
-        if v != kept {
+    for v in rest(sorted) {
+        if *v != kept {
             n += 1;
-            kept = v;
+            kept = *v;
         }
-        i += 1;
     }
     n
 }

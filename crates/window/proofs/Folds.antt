@@ -21,6 +21,12 @@ unfolding floats
 fold-values step z [] = refl
 fold-values step z (b ∷ l) = fold-values step (step z (of_bits binary64 b)) l
 
+-- two folds in one, a pair of their states
+pub fold-both : {S T : Type 0} (f : S → Float → S) (g : T → Float → T) (a : S) (z : T) (l : List ℕ) → fold {B = S × T} (λ s b. (f s.0 (of_bits binary64 b), g s.1 (of_bits binary64 b))) (a, z) l ≡ (foldl f a (floats l), foldl g z (floats l))
+unfolding floats
+fold-both f g a z [] = refl
+fold-both f g a z (b ∷ l) = fold-both f g (f a (of_bits binary64 b)) (g z (of_bits binary64 b)) l
+
 -- a fold over a slice's items
 pub fold-items : {A S : Type 0} (step : S → A → S) (z : S) (l : List A) → fold step z l ≡ foldl step z l
 fold-items step z [] = refl

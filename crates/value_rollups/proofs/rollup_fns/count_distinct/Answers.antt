@@ -3,7 +3,7 @@
 use mathlib.Core.Path.{ap}
 use native.Mathlib.Omega.{arith}
 use Prim.Native.Nat.{ℕ}
-use lib.ListN.{get_or}
+use lib.ListN.{drop, get_or}
 use borrow.Author.Rules.{rules}
 use lib.Ieee.{Float, nan, eq, ne}
 use borrow.Author.Tests.{not-true, not-false}
@@ -13,20 +13,22 @@ use Rattle.value_rollups.specs.RollupFns.{distinct_from}
 use Rattle.value_rollups.proofs.rollup_fns.count_distinct.Goals as goal
 use Rattle.value_rollups.proofs.rollup_fns.count_distinct.Goals.{then-v-kept, else-v-kept}
 
-pub loop-i-init : goal.loop-i-init
-loop-i-init c = (rw (first-at) start, search rules)
+pub loop-v-init : goal.loop-v-init
+loop-v-init c = (rw (first-at) start, search rules)
 
-pub loop-i-preserved : goal.loop-i-preserved
+pub loop-v-preserved : goal.loop-v-preserved
 unfolding ne
-loop-i-preserved c =
-    let l = c.args.sorted.now in
-    let at = item l c.loop-i.i nan c.loop-i-test.true in
-    let same = eq (get_or l c.loop-i.i nan) c.loop-i.kept in
+loop-v-preserved c =
+    let l = drop 1 c.args.sorted.now in
+    let k = c.loop-v.v-index in
+    let at = item l k nan (rw c.rest-v-items.ensures at c.loop-v-test.true) in
+    let same = eq (get_or l k nan) c.loop-v.kept in
+    let here = c.rest-v-items.ensures in
     elim c.if-v-kept.branch [
-      | then-v-kept w ↦ (turn c.loop-i.invariant.0 at (rw (not-true same w.if-v-kept.true) (cc)), omega (arith, w.n-is))
-      | else-v-kept w ↦ (turn c.loop-i.invariant.0 at (rw (not-false same w.if-v-kept.false) (cc)), omega (arith, w.n-is))
+      | then-v-kept w ↦ (turn c.loop-v.invariant.0 at (rw (not-true same (rw here at w.if-v-kept.true), rw here at w.kept-is, w.n-is)), omega (arith, w.n-is))
+      | else-v-kept w ↦ (turn c.loop-v.invariant.0 at (rw (not-false same (rw here at w.if-v-kept.false)) (cc)), omega (arith, w.n-is))
     ]
 
 pub returns : goal.returns
 unfolding distinct_from
-returns c = ap (λ (s : Float × ℕ). s.1) (done c.loop-i-test.false c.loop-i.invariant.0)
+returns c = ap (λ (s : Float × ℕ). s.1) (done (rw c.rest-v-items.ensures at c.loop-v-test.false) c.loop-v.invariant.0)
