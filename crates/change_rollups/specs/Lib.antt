@@ -1,2 +1,3 @@
 pub mod RollupFns
 pub mod Delta
+pub mod Seeded

@@ -1,16 +1,16 @@
 // The rollups of rollup_fns.rs that go from value to value. Each answers NaN for a window that does not settle it.
 
-ghost use Rattle.std.specs.Prelude.{◌&&◌, not, true, ◌≡◌, ◌≤◌, length};
+ghost use Rattle.std.specs.Prelude.{Float, List, ◌&&◌, not, true, ◌≡◌, ◌≤◌, length};
 ghost use Rattle.std.specs.Float.Ieee.Scale.{finite};
 ghost use Rattle.ieee.specs.Patterns.{floats};
 ghost use Rattle.window.specs.Types.{AllFinite};
+ghost use Rattle.window.specs.Window.{seeded};
+ghost use Rattle.change_rollups.specs.Seeded.{Computes};
 ghost use Rattle.change_rollups.specs.RollupFns.{ascent_over_time_of, below_tolerance, changes_from, changes_of, changes_prometheus_of, descent_over_time_of, gap, increase_pure_of, increases_of, is_change, resets_of, slide_from, slide_of, steps_from, steps_of};
 
 use ieee::nan;
 use value_rollups::rollup_fns::is_beyond;
-use window::types::{
-    RollupFuncArg, after_seed, are_finite, finite_at, first, last, rest, seed, value_at,
-};
+use window::types::{RollupFuncArg, after_seed, are_finite, first, last, rest, seed};
 
 // The last value less the predecessor, which is 0.0 where there is none.
 pub fn rollup_increase_pure(rfa: RollupFuncArg, values: &[u64]) -> f64
@@ -74,14 +74,12 @@ fn count_changes(prev_value: f64, values: &[u64]) -> usize
 {
     let mut compared = prev_value;
     let mut n = 0;
-    let mut i = 0;
-    while i < values.len() {
-        let v = value_at(values, i);
+    for b in values {
+        let v = ieee::value_of(*b);
         if is_change(compared, v) {
             n += 1;
             compared = v;
         }
-        i += 1;
     }
     n
 }
@@ -133,9 +131,8 @@ fn count_finite_steps(down: bool, prev_value: f64, values: &[u64]) -> f64
 {
     let mut compared = prev_value;
     let mut n = 0;
-    let mut i = 0;
-    while i < values.len() {
-        let v = finite_at(values, i);
+    for b in values {
+        let v = ieee::number_of(*b);
         let beyond = is_beyond(down, compared, v);
         if is_passed_over(down, beyond) {
             compared = v;
@@ -149,7 +146,6 @@ fn count_finite_steps(down: bool, prev_value: f64, values: &[u64]) -> f64
             }
             compared = v;
         }
-        i += 1;
     }
     ieee::of_count(n)
 }
@@ -160,9 +156,8 @@ fn count_any_steps(down: bool, prev_value: f64, values: &[u64]) -> f64
 {
     let mut compared = prev_value;
     let mut n = 0;
-    let mut i = 0;
-    while i < values.len() {
-        let v = value_at(values, i);
+    for b in values {
+        let v = ieee::value_of(*b);
         if is_beyond(down, compared, v) {
             if !change_below_tolerance(v, compared) {
                 n += 1;
@@ -171,7 +166,6 @@ fn count_any_steps(down: bool, prev_value: f64, values: &[u64]) -> f64
         } else {
             compared = v;
         }
-        i += 1;
     }
     ieee::of_count(n)
 }
@@ -188,20 +182,28 @@ fn count_steps(down: bool, prev_value: f64, values: &[u64]) -> f64
     count_any_steps(down, prev_value, values)
 }
 
+// What f gives from the predecessor over the window; without a predecessor, from the first value over the others; NaN where there is
+// neither.
+fn seeded<F: FnOnce(f64, &[u64]) -> f64>(prev_value: f64, values: &[u64], f: F) -> f64
+    requires { F.IsAlwaysCallable f }
+    ensures { (g : Float → List Float → Float) → Computes (F.post f) g → result ≡ seeded g prev_value (floats values.now) }
+{
+    if !ieee::is_nan(prev_value) {
+        return f(prev_value, values);
+    }
+    match values.split_first() {
+        Some((b, rest)) => f(ieee::value_of(*b), rest),
+        None => nan(),
+    }
+}
+
 // The steps that go the given way, from the predecessor, or else from the first value, on.
 fn steps_over(down: bool, rfa: RollupFuncArg, values: &[u64]) -> f64
     ensures { result ≡ steps_of down rfa.prev_value (floats values.now) }
 {
-    if ieee::is_nan(rfa.prev_value) {
-        if values.len() == 0 {
-            return nan();
-        }
-    }
-    count_steps(
-        down,
-        seed(rfa.prev_value, values),
-        after_seed(rfa.prev_value, values),
-    )
+    seeded(rfa.prev_value, values, |start, others| {
+        count_steps(down, start, others)
+    })
 }
 
 pub fn rollup_increases(rfa: RollupFuncArg, values: &[u64]) -> f64
@@ -227,35 +229,21 @@ fn gap_to(down: bool, prev_value: f64, v: f64) -> f64
 fn slide_over(down: bool, prev_value: f64, values: &[u64]) -> f64
     ensures { result ≡ slide_from down prev_value (floats values.now) }
 {
-    let mut before = prev_value;
-    let mut s = 0.0;
-    let mut i = 0;
-    while i < values.len() {
-        let v = value_at(values, i);
+    let (_, sum) = values.iter().fold((prev_value, 0.0), |(before, sum), b| {
+        let v = ieee::value_of(*b);
         let d = gap_to(down, before, v);
-        if d > 0.0 {
-            s = s + d;
-        }
-        before = v;
-        i += 1;
-    }
-    s
+        (v, if d > 0.0 { sum + d } else { sum })
+    });
+    sum
 }
 
 // The sum of the steps that go the given way, from the predecessor, or else from the first value, on.
 fn slide_from_predecessor(down: bool, rfa: RollupFuncArg, values: &[u64]) -> f64
     ensures { result ≡ slide_of down rfa.prev_value (floats values.now) }
 {
-    if ieee::is_nan(rfa.prev_value) {
-        if values.len() == 0 {
-            return nan();
-        }
-    }
-    slide_over(
-        down,
-        seed(rfa.prev_value, values),
-        after_seed(rfa.prev_value, values),
-    )
+    seeded(rfa.prev_value, values, |start, others| {
+        slide_over(down, start, others)
+    })
 }
 
 pub fn rollup_ascent_over_time(rfa: RollupFuncArg, values: &[u64]) -> f64

@@ -10,11 +10,11 @@ use Rattle.change_rollups.specs.RollupFns.{steps_from}
 use Rattle.change_rollups.proofs.rollup_fns.count_any_steps.Goals as goal
 use Rattle.change_rollups.proofs.rollup_fns.count_any_steps.Goals.{then-is_beyond+then-not-change_below_tolerance, then-is_beyond+else-not-change_below_tolerance, else-is_beyond}
 
-pub loop-i-preserved : goal.loop-i-preserved
-loop-i-preserved c =
-    let s = c.loop-i in
-    let at = value _ _ c.loop-i-test.true in
-    let v = c.value_at-v.ensures in
+pub loop-b-preserved : goal.loop-b-preserved
+loop-b-preserved c =
+    let s = c.loop-b in
+    let at = value _ _ c.loop-b-test.true in
+    let v = c.value_of-v.ensures in
     let beyond = c.is_beyond.ensures in
     elim c.if-is_beyond.branch [
       | then-is_beyond+then-not-change_below_tolerance w ↦
@@ -26,4 +26,4 @@ loop-i-preserved c =
 
 pub returns : goal.returns
 unfolding steps_from
-returns c = c.of_count.ensures ∙ ap (λ (s : Float × ℕ). count_f s.1) (done-values _ c.loop-i-test.false c.loop-i.invariant.0)
+returns c = c.of_count.ensures ∙ ap (λ (s : Float × ℕ). count_f s.1) (done-values _ c.loop-b-test.false c.loop-b.invariant.0)

@@ -7,6 +7,7 @@ use lib.Ieee.Scale.{finite}
 use native.Mathlib.Omega.{arith}
 use Prim.Native.Nat.{ℕ}
 use borrow.Author.Tests.{not-true}
+use Rattle.ieee.proofs.Numbers.{finite_number}
 use Rattle.window.specs.Window.{count_f}
 use Rattle.window.proofs.Folds.{turn, done-values, value}
 use Rattle.change_rollups.specs.RollupFns.{steps_from}
@@ -18,15 +19,18 @@ another-way : (down beyond : Bool) → (down && not beyond) ≡ true → beyond 
 another-way true b e = not-true b e
 another-way false b e = absurd (false≢true e)
 
-pub loop-i-preserved : goal.loop-i-preserved
-loop-i-preserved c =
-    let s = c.loop-i in
-    let at = value _ _ c.loop-i-test.true in
-    let v = c.finite_at-v.ensures in
+pub number_of-v-requires : goal.number_of-v-requires
+number_of-v-requires c = finite_number _ (c.requires.numbers c.loop-b.b-index c.loop-b-test.true)
+
+pub loop-b-preserved : goal.loop-b-preserved
+loop-b-preserved c =
+    let s = c.loop-b in
+    let at = value _ _ c.loop-b-test.true in
+    let v = c.number_of-v.ensures in
     let goes = c.is_beyond-beyond.result in
     let beyond = c.is_beyond-beyond.ensures in
     let passed : c.is_passed_over.result ≡ true → goes ≡ false = λ h. another-way c.args.down goes (sym c.is_passed_over.ensures ∙ h) in
-    let number : finite c.finite_at-v.result ≡ true = rw v (c.requires.numbers s.i c.loop-i-test.true) in
+    let number : finite c.number_of-v.result ≡ true = rw v (c.requires.numbers s.b-index c.loop-b-test.true) in
     elim c.if-is_passed_over.branch [
       | then-is_passed_over w ↦ (turn s.invariant.0 at (rw (← v, ← beyond, passed w.if-is_passed_over.true) (cc)), omega (arith, w.n-is), rw w.compared-is number)
       | else-is_passed_over+then-finite_below_tolerance+then-not-beyond w ↦
@@ -41,4 +45,4 @@ loop-i-preserved c =
 
 pub returns : goal.returns
 unfolding steps_from
-returns c = c.of_count.ensures ∙ ap (λ (s : Float × ℕ). count_f s.1) (done-values _ c.loop-i-test.false c.loop-i.invariant.0)
+returns c = c.of_count.ensures ∙ ap (λ (s : Float × ℕ). count_f s.1) (done-values _ c.loop-b-test.false c.loop-b.invariant.0)

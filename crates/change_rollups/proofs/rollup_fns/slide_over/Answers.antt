@@ -1,20 +1,20 @@
 -- `change_rollups::rollup_fns::slide_over` meets its contract: it folds `slide` over the values.
 -- Assumes nothing.
-use mathlib.Core.Path.{ap}
-use lib.Ieee.{Float}
-use Rattle.window.proofs.Folds.{turn, done-values, value}
-use Rattle.change_rollups.specs.RollupFns.{slide_from}
+use mathlib.Core.Path.{◌≡◌, ap, ◌∙◌}
+use Prim.Native.Nat.{ℕ}
+use borrow.Author.Rules.{rules}
+use lib.Ieee.{Float, binary64, of_bits}
+use Rattle.std.specs.List.{fold}
+use Rattle.std.proofs.lemmas.Grind.{common_steps}
+use Rattle.window.specs.Window.{zero_f}
+use Rattle.window.proofs.Folds.{fold-values}
+use Rattle.change_rollups.specs.RollupFns.{slide, slide_from}
 use Rattle.change_rollups.proofs.rollup_fns.slide_over.Goals as goal
-use Rattle.change_rollups.proofs.rollup_fns.slide_over.Goals.{then-d, else-d}
-
-pub loop-i-preserved : goal.loop-i-preserved
-loop-i-preserved c =
-    turn c.loop-i.invariant (value _ _ c.loop-i-test.true)
-    (elim c.if-d.branch [
-      | then-d w ↦ rw (← c.value_at-v.ensures, ← c.gap_to-d.ensures, w.if-d.true) (cc)
-      | else-d w ↦ rw (← c.value_at-v.ensures, ← c.gap_to-d.ensures, w.if-d.false) (cc)
-    ])
 
 pub returns : goal.returns
 unfolding slide_from
-returns c = ap (λ (s : Float × Float). s.1) (done-values _ c.loop-i-test.false c.loop-i.invariant)
+returns c =
+    let step = slide c.args.down in
+    let start : Float × Float = (c.args.prev_value, zero_f) in
+    let e : c.fold-sum.result ≡ fold (λ (s : Float × Float) (b : ℕ). step s (of_bits binary64 b)) start c.args.values.now = search (rules, common_steps) in
+    ap (λ (s : Float × Float). s.1) (e ∙ fold-values step start c.args.values.now)

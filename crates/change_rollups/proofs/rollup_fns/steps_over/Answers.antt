@@ -1,24 +1,9 @@
--- `change_rollups::rollup_fns::steps_over` meets its contract: the predecessor, or else the first value, is where it starts.
+-- `change_rollups::rollup_fns::steps_over` meets its contract: what `seeded` is handed computes `steps_from`.
 -- Assumes nothing.
-use mathlib.Core.Bool.{true, false}
-use mathlib.Core.Logic.{◌⊎◌, inl, inr}
-use mathlib.Core.Path.{◌≡◌, ◌∙◌}
-use lib.ListN.{length}
-use Rattle.window.proofs.Window.{from-seed, no-values, not-neither}
+use borrow.Author.Rules.{rules}
 use Rattle.change_rollups.specs.RollupFns.{steps_from, steps_of}
 use Rattle.change_rollups.proofs.rollup_fns.steps_over.Goals as goal
-use Rattle.change_rollups.proofs.rollup_fns.steps_over.Goals.{then-is_nan+else-values-eq0, else-is_nan}
-
-pub returns-then-values-eq0 : goal.returns-then-values-eq0
-unfolding steps_of
-returns-then-values-eq0 c = rw (← c.is_nan.ensures, c.if-is_nan.true, no-values _ c.if-values-eq0.true) c.nan.ensures
 
 pub returns : goal.returns
 unfolding steps_of
-returns c =
-    let p = c.args.rfa.prev_value in
-    let l = c.args.values.now in
-    let either : ((c.is_nan.result ≡ true) × (length l ≡ 0 → ⊥)) ⊎ (c.is_nan.result ≡ false) =
-    elim c.if-is_nan.branch [ then-is_nan+else-values-eq0 w ↦ inl (w.if-is_nan.true, w.if-values-eq0.false) | else-is_nan w ↦ inr w.if-is_nan.false ]
-    in
-    c.count_steps.ensures ∙ from-seed (steps_from c.args.down) p l (λ n z. absurd (not-neither p c.is_nan.ensures either n z)) c.seed.ensures c.after_seed.ensures
+returns c = c.seeded.ensures (steps_from c.args.down) (λ s l r h. search rules)
