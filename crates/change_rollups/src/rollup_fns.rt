@@ -188,13 +188,13 @@ fn seeded<F: FnOnce(f64, &[u64]) -> f64>(prev_value: f64, values: &[u64], f: F) 
     requires { F.IsAlwaysCallable f }
     ensures { (g : Float → List Float → Float) → Computes (F.post f) g → result ≡ seeded g prev_value (floats values.now) }
 {
-    if !ieee::is_nan(prev_value) {
-        return f(prev_value, values);
+    if ieee::is_nan(prev_value) {
+        if values.len() == 0 {
+            return nan();
+        }
     }
-    match values.split_first() {
-        Some((b, rest)) => f(ieee::value_of(*b), rest),
-        None => nan(),
-    }
+    // One call, so that a loop in f stands once in the compiled code.
+    f(seed(prev_value, values), after_seed(prev_value, values))
 }
 
 // The steps that go the given way, from the predecessor, or else from the first value, on.

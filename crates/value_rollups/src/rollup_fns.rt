@@ -72,12 +72,12 @@ fn no_lesser(m: f64, v: f64) -> f64
 pub fn rollup_max(rfa: RollupFuncArg, values: &[u64]) -> f64
     ensures { result ≡ max_of (floats values.now) }
 {
-    if values.len() == 0 {
-        return nan();
+    match values.split_first() {
+        Some((first, rest)) => rest.iter().fold(ieee::value_of(*first), |max_value, b| {
+            no_lesser(max_value, ieee::value_of(*b))
+        }),
+        None => nan(),
     }
-    rest(values).iter().fold(first(values), |max_value, b| {
-        no_lesser(max_value, ieee::value_of(*b))
-    })
 }
 
 // The median absolute deviation.

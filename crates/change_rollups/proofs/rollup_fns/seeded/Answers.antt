@@ -1,27 +1,21 @@
--- `change_rollups::rollup_fns::seeded` meets its contract: each way to a result is one of the definition.
+-- `change_rollups::rollup_fns::seeded` meets its contract: the predecessor, or else the first value, is where f starts.
 -- Assumes nothing.
-use mathlib.Core.Bool.{true}
-use mathlib.Core.List.{List, ◌∷◌}
-use mathlib.Core.Path.{◌≡◌, sym, ◌∙◌}
-use Prim.Native.Nat.{ℕ}
-use borrow.Author.Rules.{rules}
-use lib.Ieee.{Float, binary64, is_nan, of_bits}
-use Rattle.ieee.specs.Patterns.{floats}
-use Rattle.window.specs.Window.{first_or, is_empty, seeded}
-use Rattle.window.proofs.Window.{no-values}
+use mathlib.Core.Bool.{true, false}
+use mathlib.Core.Logic.{◌⊎◌, inl, inr}
+use mathlib.Core.Path.{◌≡◌, ◌∙◌}
+use lib.ListN.{length}
+use Rattle.window.proofs.Window.{from-seed, no-values, not-neither}
 use Rattle.change_rollups.proofs.rollup_fns.seeded.Goals as goal
+use Rattle.change_rollups.proofs.rollup_fns.seeded.Goals.{then-is_nan+else-values-eq0, else-is_nan}
 
-from-first : (f : Float → List Float → Float) (p : Float) {l : List ℕ} {b : ℕ} {rest : List ℕ} → is_nan p ≡ true → l ≡ b ∷ rest → f (of_bits binary64 b) (floats rest) ≡ seeded f p (floats l)
-unfolding floats first_or is_empty
-from-first f p n e = rw (e, n)
+pub returns-then-values-eq0 : goal.returns-then-values-eq0
+returns-then-values-eq0 g c f computes = rw (← c.is_nan.ensures, c.if-is_nan.true, no-values _ c.if-values-eq0.true) c.nan.ensures
 
-pub returns-then-not-is_nan : goal.returns-then-not-is_nan
-returns-then-not-is_nan g c f computes = rw (← c.is_nan.ensures, c.if-not-is_nan.true) (computes _ c.args.values _ c.f.ensures)
-
-pub returns-in-Some : goal.returns-in-Some
-returns-in-Some g c f computes =
-    let whole : c.args.values.now ≡ c.in-Some.b.now ∷ c.in-Some.rest.now = search rules in
-    rw c.value_of.ensures at (computes _ c.in-Some.rest _ c.f-in-Some.ensures) ∙ from-first f c.args.prev_value (sym c.is_nan.ensures ∙ c.if-not-is_nan.false) whole
-
-pub returns-in-None : goal.returns-in-None
-returns-in-None g c f computes = rw (← c.is_nan.ensures, c.if-not-is_nan.false, no-values _ c.in-None.ensures.cases) c.nan.ensures
+pub returns : goal.returns
+returns g c f computes =
+    let p = c.args.prev_value in
+    let l = c.args.values.now in
+    let either : ((c.is_nan.result ≡ true) × (length l ≡ 0 → ⊥)) ⊎ (c.is_nan.result ≡ false) =
+    elim c.if-is_nan.branch [ then-is_nan+else-values-eq0 w ↦ inl (w.if-is_nan.true, w.if-values-eq0.false) | else-is_nan w ↦ inr w.if-is_nan.false ]
+    in
+    computes _ _ _ c.f.ensures ∙ from-seed f p l (λ n z. absurd (not-neither p c.is_nan.ensures either n z)) c.seed.ensures c.after_seed.ensures
