@@ -81,7 +81,7 @@ fourfold m i k l h =
     ∙ sym (mul_assoc m (2 ^ (i - (k + k))) (2 ^ k * 2 ^ k))
 
 module _ (n : ℕ) where
-  square_le : (v : ℕ) → 2 * v ≤ halves n → v * v ≤ n
+  pub square_le : (v : ℕ) → 2 * v ≤ halves n → v * v ≤ n
   square_le v h = le_of_suc-le-suc (lt_of_not-le (λ (g : n < v * v). not-le_of_lt (below n v g) h))
 
   square-ge : (u : ℕ) → halves n ≤ 2 * u → n ≤ u * u
@@ -123,6 +123,38 @@ module _ (n m i : ℕ) (digits : m < 2 ^ 53) (is : n ≡ m * 2 ^ i) where
         over = omega (arith, whole, upper, odd-above r w Q p (omega (arith, whole, upper, over)));
       }
 
+-- the digits of the root of n units that are dropped, and the nearest number that is left
+pub record Rounded (n : ℕ) : Type 0 where
+  pub j : ℕ
+  pub dropped : size (halves n / 2) - 53 ≡ suc j
+  pub inside : Enclosed n (closest (halves n) (2 * 2 ^ suc j)) (suc j)
+
+pub rounded : (m i : ℕ) → 0 < m → m < 2 ^ 53 → m * 2 ^ i < 2 ^ 2098 → Rounded (m * 2 ^ i * 2 ^ 1074)
+rounded m i positive digits l =
+    let a = m * 2 ^ i in
+    let p : 0 < a = mul-pos positive (pow_pos i) in
+    let n = a * 2 ^ 1074 in
+    let scaled : n ≡ m * 2 ^ (i + 1074) = mul_assoc m (2 ^ i) (2 ^ 1074) ∙ ap (λ (z : ℕ). m * z) (sym (pow-add 2 i 1074)) in
+    let q = halves n / 2 in
+    let lo = from n (2 ^ 54) (le_trans (lit≤ tt) (mul-le-mul_right (2 ^ 1074) p)) in
+    let more : 54 < size q = lt_of_not-le (λ (g : size q ≤ 54). omega (arith, size-lt q, pow_mono g)) in
+    let k = suc (size q - 54) in
+    let e : size q ≡ 53 + k = omega arith in
+    record {
+      j = size q - 54;
+      dropped = omega arith;
+      inside =
+          enclosed n m (i + 1074) digits scaled (closest (halves n) (2 * 2 ^ k)) (size q - 54) (closest-near (halves n) (2 * 2 ^ k) (omega (arith, pow_pos k)))
+          (le_trans (le_of_eq (sym (pow-add 2 52 k))) (size_reaches q (52 + k) (omega arith)))
+          (lt_of_lt_of_le (size-lt q) (le_of_eq (ap (λ (z : ℕ). 2 ^ z) e ∙ pow-add 2 53 k)));
+    }
+
+-- no more than 2 ^ 2098 units: at most so many digits are dropped
+few-dropped : (n a : ℕ) → n ≡ a * 2 ^ 1074 → a < 2 ^ 2098 → size (halves n / 2) ≤ 1586
+few-dropped n a is l =
+    let hi : halves n / 2 < 2 ^ 1586 = (div-lt_iff_lt-mul (lit< tt)).1 (below n (2 ^ 1586) (rw (sym is) at (mul-lt-mul_of_pos_right l (pow_pos 1074)))) in
+    size-le (halves n / 2) 1586 hi
+
 -- x is m * 2 ^ i units, and its root, in units, is that of m * 2 ^ i * 2 ^ 1074
 pub sqrt-of-units-enclosed : (x : Float) (m i : ℕ) → 0 < m → m < 2 ^ 53 → m * 2 ^ i < 2 ^ 2098 → HasValue x false (m * 2 ^ i) (2 ^ 1074)
     → (r : ℕ) × (k : ℕ) × HasValue (sqrt_of x) false (r * 2 ^ k) (2 ^ 1074) × Enclosed (m * 2 ^ i * 2 ^ 1074) r k
@@ -130,27 +162,18 @@ sqrt-of-units-enclosed x m i positive digits l v =
     let a = m * 2 ^ i in
     let p : 0 < a = mul-pos positive (pow_pos i) in
     let n = a * 2 ^ 1074 in
-    let scaled : n ≡ m * 2 ^ (i + 1074) = mul_assoc m (2 ^ i) (2 ^ 1074) ∙ ap (λ (z : ℕ). m * z) (sym (pow-add 2 i 1074)) in
-    let q = halves n / 2 in
-    let lo = from n (2 ^ 54) (le_trans (lit≤ tt) (mul-le-mul_right (2 ^ 1074) p)) in
-    let hi : q < 2 ^ 1586 = (div-lt_iff_lt-mul (lit< tt)).1 (below n (2 ^ 1586) (mul-lt-mul_of_pos_right l (pow_pos 1074))) in
-    let more : 54 < size q = lt_of_not-le (λ (g : size q ≤ 54). omega (arith, size-lt q, pow_mono g)) in
-    let less = size-le q 1586 hi in
-    let j = size q - 54 in
-    let k = suc j in
+    let t = rounded m i positive digits l in
+    let k = suc t.j in
     let r = closest (halves n) (2 * 2 ^ k) in
-    let e : size q ≡ 53 + k = omega arith in
-    let inside =
-    enclosed n m (i + 1074) digits scaled r j (closest-near (halves n) (2 * 2 ^ k) (omega (arith, pow_pos k)))
-    (le_trans (le_of_eq (sym (pow-add 2 52 k))) (size_reaches q (52 + k) (omega arith)))
-    (lt_of_lt_of_le (size-lt q) (le_of_eq (ap (λ (z : ℕ). 2 ^ z) e ∙ pow-add 2 53 k))) in
+    let less = few-dropped n a refl l in
+    let few : 53 + k < 2098 = omega (arith, less, t.dropped) in
     let room : r * 2 ^ k < 2 ^ 2098 =
-    lt_of_le_of_lt (le_trans (mul-le-mul_right (2 ^ k) inside.most) (le_of_eq (sym (pow-add 2 53 k)))) (pow-lt {i = 53 + k} {j = 2098} (omega arith)) in
-    let is : sqrt_of x ≡ units binary64 false r k = sqrt-of-units x a p v ∙ root_is n k (omega arith) in
-    (r, k, subst (λ (y : Float). HasValue y false (r * 2 ^ k) (2 ^ 1074)) (sym is) (units_val binary64 false r k room), inside)
+    lt_of_le_of_lt (le_trans (mul-le-mul_right (2 ^ k) t.inside.most) (le_of_eq (sym (pow-add 2 53 k)))) (pow-lt {i = 53 + k} {j = 2098} few) in
+    let is : sqrt_of x ≡ units binary64 false r k = sqrt-of-units x a p v ∙ root_is n k t.dropped in
+    (r, k, subst (λ (y : Float). HasValue y false (r * 2 ^ k) (2 ^ 1074)) (sym is) (units_val binary64 false r k room), t.inside)
 
 -- every finite value is its digits times a power of two units
-scaled : (m : ℕ) (e : ℤ) → down e ≤ 2 ^ 1074 → (i : ℕ) × (m * up e * 2 ^ 1074 ≡ m * 2 ^ i * down e)
+pub scaled : (m : ℕ) (e : ℤ) → down e ≤ 2 ^ 1074 → (i : ℕ) × (m * up e * 2 ^ 1074 ≡ m * 2 ^ i * down e)
 scaled m (pos i) h = (i + 1074, mul_assoc m (2 ^ i) (2 ^ 1074) ∙ ap (λ (z : ℕ). m * z) (sym (pow-add 2 i 1074)) ∙ sym (mul-one (m * 2 ^ (i + 1074))))
 scaled m (negsuc i) h =
     let l : suc i ≤ 1074 = le_of_suc-le-suc (lt_of_not-le (λ (g : 1074 < suc i). not-le_of_lt (pow-lt g) h)) in

@@ -1,7 +1,8 @@
--- What the proofs of the square root use, from whole numbers to values; and, for a reader of the definition, `Whole`, `Enclosed` and `Examples`.
+-- What the proof of the square root uses, from whole numbers to values; and, for a reader of the definition, `Whole`, `Enclosed` and `Examples`.
 pub mod Whole
 pub mod Closest
 pub mod Halves
 pub mod Value
 pub mod Enclosed
+pub mod Std
 pub mod Examples

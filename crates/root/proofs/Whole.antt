@@ -1,8 +1,8 @@
 -- `isqrt n` is the whole part of the root of n: its square is at most n, and the next number's is above it. Assumes nothing.
-use mathlib.Core.Path.{◌≡◌, refl, sym, ap, ◌∙◌}
+use mathlib.Core.Path.{◌≡◌, sym, ap, ◌∙◌}
 use mathlib.Core.Bool.{Bool, true, false, not, cond}
-use Prim.Native.Nat.{ℕ, zero, suc, ◌+◌, ◌-◌, ◌*◌, ◌/◌, ◌^◌, ◌≤◌, ◌<◌}
-use native.Mathlib.Nat.{mul-suc, mul_assoc, mul_left_comm, pow-succ', lt_of_lt_of_le}
+use Prim.Native.Nat.{ℕ, zero, suc, ◌*◌, ◌/◌, ◌^◌, ◌≤◌, ◌<◌}
+use native.Mathlib.Nat.{mul_assoc, mul_left_comm, pow-succ', lt_of_lt_of_le}
 use native.Mathlib.Omega.{arith}
 use lib.Dec.{T, leb, leb→le, nleb→lt}
 use lib.Ieee.{size}
@@ -41,7 +41,3 @@ two-le-four (suc k) = omega (arith, pow-succ' 2 k, pow-succ' 4 k, two-le-four k)
 pub isqrt-is : (n : ℕ) → IsRoot n (isqrt n)
 unfolding isqrt
 isqrt-is n = root_by_lem (size n) n (lt_of_lt_of_le (size-lt n) (two-le-four (size n)))
-
-pub pred-square : (q : ℕ) → q * (q - 1) + q ≡ q * q
-pred-square zero = refl
-pred-square (suc q) = let e : suc q - 1 ≡ q = omega arith in rw e (sym (mul-suc (suc q) q))

@@ -1,7 +1,7 @@
 -- The correctly rounded square root of a binary64, by whole numbers. A unit is the smallest binary64, 2 ^ -1074, and every finite value is a whole number of units.
 -- The root of N units is √n units, for n = N * 2 ^ 1074: √(N * 2 ^ -1074) = √(N * 2 ^ 1074) * 2 ^ -1074.
--- That the result is the nearest binary64 is proved in proofs/root/Enclosed.antt, and proofs/root/Examples.antt has examples.
-use Rattle.std.specs.Prelude.{ℕ, zero, suc, ◌+◌, ◌*◌, ◌/◌, ◌^◌, ◌≤◌, ◌<◌, true, false, cond, leb, ltb, Float}
+-- That the result is the nearest binary64 is proved in proofs/Enclosed.antt, and proofs/Examples.antt has examples.
+use Rattle.std.specs.Prelude.{ℕ, zero, suc, ◌+◌, ◌*◌, ◌/◌, ◌^◌, true, false, cond, leb, ltb, Float}
 use Rattle.std.specs.Float.{nan, inf, fin, binary64}
 use Rattle.std.specs.Float.Ieee.{up, down, size, round}
 
@@ -40,19 +40,3 @@ sqrt_of (inf false) = inf false
 sqrt_of (fin s zero e) = fin s zero e
 sqrt_of (fin true (suc m) e) = nan
 sqrt_of (fin false (suc m) e) = root_of (suc m * up e * 2 ^ 1074 / down e * 2 ^ 1074)
-
--- ---- what the code looks for: the whole number nearest to the root of m * 2 ^ 52, in 53 digits
-
-pub record Digits (r : ℕ) : Type 0 where
-  pub low : 2 ^ 52 ≤ r
-  pub high : r < 2 ^ 53
-
--- r - 1/2 is below the root: (r - 1/2) ^ 2 is r * r - r + 1/4
-pub record Above (m r : ℕ) : Type 0 where
-  pub digits : Digits r
-  pub under : r * r < m * 2 ^ 52 + r
-
--- and r + 1/2 is above it
-pub record Nearest (m r : ℕ) : Type 0 where
-  pub above : Above m r
-  pub over : m * 2 ^ 52 ≤ r * r + r
