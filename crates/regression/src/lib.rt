@@ -57,8 +57,12 @@ fn sum_up(values: &[u64], timestamps: &[i64], intercept_time: i64) -> Sums
         tv_sum: 0.0,
         tt_sum: 0.0,
     };
-    for (b, t) in values.iter().zip(timestamps) {
-        sums = sums.with(ieee::seconds(*t - intercept_time), ieee::value_of(*b));
+    // A zip here took 1.2 times as long.
+    for i in 0..values.len().min(timestamps.len()) {
+        sums = sums.with(
+            ieee::seconds(timestamps[i] - intercept_time),
+            ieee::value_of(values[i]),
+        );
     }
     sums
 }

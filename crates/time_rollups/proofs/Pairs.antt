@@ -1,6 +1,11 @@
 -- A loop over values and times at once, as a fold over the readings: what is folded and what is left make the whole.
 -- Assumes nothing.
-use Prim.Native.Nat.{ℕ}
+use Prim.Native.Nat.{ℕ, min, ◌≤◌}
+use native.Mathlib.Omega.{arith}
+use borrow.Author.Tests.{leb-true, leb-false}
+use lib.Dec.{leb}
+use lib.ListN.{length, drop, drop_of_length-le}
+use Rattle.ieee.proofs.Tests.{by-test}
 use mathlib.Core.Path.{◌≡◌, refl}
 use mathlib.Core.Logic.{◌⊎◌, inl, inr}
 use mathlib.Core.List.{List, [], ◌∷◌, foldl}
@@ -28,3 +33,9 @@ unfolding floats readings
 over h (inl e) = rw e at h.left
 over {vs = []} h (inr e) = h.left
 over {vs = b ∷ vs} h (inr e) = rw e at h.left
+
+-- past the shorter of two lists, by an index
+pub none_left : {A B : Type 0} (l : List A) (m : List B) (i : ℕ) → min (length l) (length m) ≤ i → (drop i l ≡ []) ⊎ (drop i m ≡ [])
+none_left l m i h =
+    by-test (leb (length l) i) (λ e. inl (drop_of_length-le l (leb-true (length l) i e)))
+    (λ e. let k : length m ≤ i = omega (arith, leb-false (length l) i e) in inr (drop_of_length-le m k))

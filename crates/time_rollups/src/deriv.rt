@@ -8,8 +8,7 @@ ghost use Rattle.time_rollups.specs.Deriv.{deriv_fast_of, deriv_slow_of, ideriv_
 use crate::ranged::RangedWindow;
 use ieee::nan;
 use window::types::{
-    RollupFuncArg, count_up_to, first, first_time, last, last_time, seconds_between, time_at,
-    value_at,
+    count_up_to, first, first_time, last, last_time, seconds_between, time_at, value_at,
 };
 
 // The slope of the regression's line.

@@ -12,7 +12,7 @@ use ieee::nan;
 use regression::Line;
 use value_rollups::rollup_fns::rollup_avg;
 use window::types::{
-    RollupFuncArg, first, first_time, init, last, last_time, seconds_between, time_at, value_at,
+    RollupFuncArg, first, first_time, init, last, last_time, seconds_between, time_at,
 };
 
 // Whether v is no less than m, or, where the way is down, no greater.

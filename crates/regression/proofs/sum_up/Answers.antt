@@ -1,18 +1,29 @@
 -- `regression::sum_up` meets its contract. At each turn, what is summed and what is left make the whole.
 -- Assumes nothing.
-use Rattle.std.proofs.Common.{rules, ◌≡◌, ℕ, List, [], ◌∷◌}
+use Rattle.std.proofs.Common.{rules, ◌≡◌, ℕ, ◌+◌, ◌≤◌, ◌<◌, List, [], ◌∷◌, add-one, arith, leb-true, drop-cons, drop_of_length-le}
+use Prim.Native.Nat.{min}
 use mathlib.Core.Logic.{◌⊎◌, inl, inr}
+use borrow.Author.Tests.{leb-false}
+use lib.Dec.{leb}
 use lib.IntN.{ℤ, pos, ◌-ℤ◌}
-use lib.ListN.{length, get_or}
+use lib.ListN.{length, drop, get_or}
 use mir.Syntax.{w64}
 use mir.Val.{SFits, of_z, to_z}
 use mir.ValLaws.{to_z-of_z}
 use lib.Ieee.{binary64, of_bits}
-use Rattle.std.proofs.lemmas.Slice.Zip.{Zip-more, zip_turn, either_empty_from_Zip}
 use Rattle.ieee.specs.Patterns.{floats}
+use Rattle.ieee.proofs.Tests.{by-test}
 use Rattle.regression.specs.declared.Sums.{Sums}
 use Rattle.regression.specs.Regression.{seconds_from, sums_from, sums_with}
 use Rattle.regression.proofs.sum_up.Goals as goal
+
+left_at : {A : Type 0} (l : List A) (i : ℕ) (d : A) → i < length l → drop i l ≡ get_or l i d ∷ drop (i + 1) l
+left_at l i d h = rw (add-one i) (drop-cons l i d h)
+
+none_left : {A B : Type 0} (l : List A) (m : List B) (i : ℕ) → min (length l) (length m) ≤ i → (drop i l ≡ []) ⊎ (drop i m ≡ [])
+none_left l m i h =
+    by-test (leb (length l) i) (λ e. inl (drop_of_length-le l (leb-true (length l) i e)))
+    (λ e. let k : length m ≤ i = omega (arith, leb-false (length l) i e) in inr (drop_of_length-le m k))
 
 one_more : (t : ℤ) (s all : Sums) (ts us : List ℤ) (vs ws : List ℕ) (u : ℤ) (b : ℕ) → vs ≡ b ∷ ws → ts ≡ u ∷ us → sums_from t s ts (floats vs) ≡ all
     → sums_from t (sums_with s (seconds_from t u) (of_bits binary64 b)) us (floats ws) ≡ all
@@ -25,20 +36,21 @@ ended t s all [] vs (inl v) e = e
 ended t s all (u ∷ us) vs (inl v) e = rw v at e
 ended t s all ts vs (inr w) e = rw w at e
 
-pub loop-b-preserved : goal.loop-b-preserved
-loop-b-preserved c =
-    let more = Zip-more c.loop-b.b-iterator c.next.new.self c.next.result (c.in-Some.b, c.in-Some.t) c.in-Some.is c.next.ensures.steps in
-    let turn =
-    zip_turn c.args.values.now c.args.timestamps.now c.loop-b.yielded c.into_iter-b-iterator.result c.loop-b.b-iterator c.next.new.self c.next.result (search rules) (search rules) c.loop-b.yielded_by
-    (c.in-Some.b, c.in-Some.t) c.in-Some.is c.next.ensures.steps in
-    let at_index : c.in-Some.t.now ≡ get_or c.args.timestamps.now (length c.loop-b.yielded) (pos 0) = turn.3 (pos 0) in
-    let known = to_z-of_z w64 c.in-Some.t.now (search rules) in
+pub loop-i-preserved : goal.loop-i-preserved
+loop-i-preserved c =
+    let vs = c.args.values.now in
+    let ts : List ℤ = c.args.timestamps.now in
+    let i = c.loop-i.i in
+    let in_values : i < length vs = omega arith in
+    let in_times : i < length ts = omega arith in
+    let known = to_z-of_z w64 (get_or ts i (pos 0)) (search rules) in
     let ic = to_z-of_z w64 c.args.intercept_time c.ranges.intercept_time in
-    let less : SFits w64 (to_z w64 (of_z w64 c.in-Some.t.now) -ℤ to_z w64 (of_z w64 c.args.intercept_time)) = rw (known, ic, at_index) (c.requires.by_index (length c.loop-b.yielded) turn.1) in
+    let less : SFits w64 (to_z w64 (of_z w64 (get_or ts i (pos 0))) -ℤ to_z w64 (of_z w64 c.args.intercept_time)) = rw (known, ic) (c.requires.by_index i in_times) in
     rw (c.with-sums.ensures, c.seconds.ensures, c.value_of.ensures, to_z-of_z w64 _ less, known)
-    (one_more _ _ _ _ _ _ _ _ _ more.0 more.1 c.loop-b.invariant)
+    (one_more _ _ _ _ _ _ _ _ _ (left_at vs i 0 in_values) (left_at ts i (pos 0) in_times) c.loop-i.invariant)
 
 pub returns : goal.returns
 returns c =
+    let past : min (length c.args.values.now) (length c.args.timestamps.now) ≤ c.loop-i.i = omega arith in
     rw (to_z-of_z w64 c.args.intercept_time c.ranges.intercept_time)
-    at (ended _ _ _ _ _ (either_empty_from_Zip c.loop-b.b-iterator c.next.new.self c.next.result c.in-None.is c.next.ensures.steps) c.loop-b.invariant)
+    at (ended _ _ _ _ _ (none_left c.args.values.now c.args.timestamps.now c.loop-i.i past) c.loop-i.invariant)

@@ -1,32 +1,33 @@
 -- `time_rollups::integrate::area` meets its contract: it folds `extend` over the readings.
 -- Assumes nothing.
-use Rattle.std.proofs.Common.{rules}
 use native.Mathlib.Omega.{arith}
-use Rattle.window.specs.Types.{InRange}
-use Rattle.window.proofs.Times.{back}
+use Prim.Native.Nat.{min, ◌≤◌, ◌<◌}
 use lib.IntN.{pos}
 use lib.ListN.{length}
 use mir.Facts.{to_z-of_z}
-use Rattle.std.proofs.lemmas.Slice.Zip.{Zip-more, zip_turn, either_empty_from_Zip}
-use Rattle.time_rollups.proofs.Pairs.{taken, over}
+use Rattle.window.specs.Types.{InRange}
+use Rattle.window.proofs.Times.{back}
+use Rattle.window.proofs.Folds.{item}
+use Rattle.time_rollups.proofs.Pairs.{taken, over, none_left}
 use Rattle.time_rollups.specs.Integrate.{area_at, area_from}
 use Rattle.time_rollups.proofs.integrate.area.Goals as goal
 
-pub loop-b-preserved : goal.loop-b-preserved
+pub loop-i-preserved : goal.loop-i-preserved
 unfolding area_at
-loop-b-preserved c =
-    let more = Zip-more c.loop-b.b-iterator c.next.new.self c.next.result (c.in-Some.b, c.in-Some.ts) c.in-Some.is c.next.ensures.steps in
-    let turn =
-    zip_turn c.args.values.now c.args.timestamps.now c.loop-b.yielded c.into_iter-b-iterator.result c.loop-b.b-iterator c.next.new.self c.next.result (search rules) (search rules) c.loop-b.yielded_by
-    (c.in-Some.b, c.in-Some.ts) c.in-Some.is c.next.ensures.steps in
-    let h : InRange c.in-Some.ts.now = rw (turn.3 (pos 0)) (c.requires.times (length c.loop-b.yielded)) in
-    let known = back c.in-Some.ts.now h in
-    (taken c.loop-b.invariant.0 more.0 more.1 (cc known), rw known (omega (arith, h)))
+loop-i-preserved c =
+    let vs = c.args.values.now in
+    let ts = c.args.timestamps.now in
+    let i = c.loop-i.i in
+    let in_values : i < length vs = omega arith in
+    let in_times : i < length ts = omega arith in
+    let h : InRange c.time_at-ts.result = rw c.time_at-ts.ensures (c.requires.times i) in
+    let known = back c.time_at-ts.result h in
+    (taken c.loop-i.invariant.0 (item vs i 0 in_values).here (item ts i (pos 0) in_times).here (cc known), rw known (omega (arith, h)))
 
 pub returns : goal.returns
 unfolding area_from area_at
 returns c =
-    let whole = over c.loop-b.invariant.0 (either_empty_from_Zip c.loop-b.b-iterator c.next.new.self c.next.result c.in-None.is c.next.ensures.steps) in
-    let e = rw (to_z-of_z c.ranges.t) at whole in
+    let past : min (length c.args.values.now) (length c.args.timestamps.now) ≤ c.loop-i.i = omega arith in
+    let e = rw (to_z-of_z c.ranges.t) at (over c.loop-i.invariant.0 (none_left c.args.values.now c.args.timestamps.now c.loop-i.i past)) in
     let d = rw (to_z-of_z c.ranges.end) at c.seconds_between-2.ensures in
     rw (← e, ← d)
