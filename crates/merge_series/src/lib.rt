@@ -3,6 +3,8 @@
 
 mod call;
 mod joined;
+mod slices;
 mod written;
 
 pub use call::merge;
+pub use slices::{Series, SeriesMut};
