@@ -8,8 +8,8 @@ use mathlib.Core.Option.{none}
 use Prim.Native.Nat.{ℕ, ◌+◌}
 use native.Mathlib.Omega.{arith}
 use lib.ListN.{length}
-use Rattle.harzoulin.specs.declared.runs.Choice.{Choice}
-use Rattle.harzoulin.specs.declared.runs.Choice.TheVariants.{Named, Unnamed}
+use Rattle.std.specs.Prelude.{Some, None}
+use Rattle.harzoulin.specs.Runs.{Choice}
 use Rattle.rollup.specs.declared.handler.RollupHandler.{RollupHandler}
 use Rattle.std.specs.Prelude.{Ok}
 use Rattle.steps.specs.declared.PreFunction.{PreFunction}
@@ -61,10 +61,10 @@ makes : (e : NumberedCall) → ((c : Call) × Makes e c) ⊎ MakesNone e
 makes e = go (choice e) e.settings refl refl
   where
     go : (k : Choice) (s : Settings) → choice e ≡ k → e.settings ≡ s → ((c : Call) × Makes e c) ⊎ MakesNone e
-    go (Named pre h) (run rc) p q = inl (with_choice e pre h, record { made_is = rw p; replied_is = rw (p, q); outputs_are = rw q })
-    go (Named pre h) (settled sc) p q = inl (with_choice e pre h, record { made_is = rw p; replied_is = rw (p, q); outputs_are = rw q })
-    go Unnamed (run rc) p q = inr (record { made_is = rw p; refused = rw (p, q) })
-    go Unnamed (settled sc) p q = inr (record { made_is = rw p; refused = rw (p, q) })
+    go (Some (pre, h)) (run rc) p q = inl (with_choice e pre h, record { made_is = rw p; replied_is = rw (p, q); outputs_are = rw q })
+    go (Some (pre, h)) (settled sc) p q = inl (with_choice e pre h, record { made_is = rw p; replied_is = rw (p, q); outputs_are = rw q })
+    go None (run rc) p q = inr (record { made_is = rw p; refused = rw (p, q) })
+    go None (settled sc) p q = inr (record { made_is = rw p; refused = rw (p, q) })
 
 module _ (e : NumberedCall) where
   answers_by : replied_answers e ≡ joined answers (made e)
@@ -100,5 +100,5 @@ numbered-cut-rejoins whole pieces c one ok cut =
     }
   where
     made-samples : (k : Choice) → made_by whole k ≡ c ∷ [] → length whole.times ≡ samples c
-    made-samples (Named pre h) q = let first : with_choice whole pre h ≡ c = cc in ap samples first
-    made-samples Unnamed q = let clash : ◌≡◌ {A = ℕ} 0 1 = cc in absurd (omega arith)
+    made-samples (Some (pre, h)) q = let first : with_choice whole pre h ≡ c = cc in ap samples first
+    made-samples None q = let clash : ◌≡◌ {A = ℕ} 0 1 = cc in absurd (omega arith)

@@ -1,16 +1,14 @@
 -- A call of one of the two exported runs, whose step and rollup are numbers, and what is read off its reply. One that is refused 28 makes no call of the core,
 -- and is among the refused.
 -- Assumes nothing.
-use Rattle.std.specs.Prelude.{List, [], ◌∷◌, ◌≡◌, ℕ, ◌+◌, ◌-◌, ◌*◌, ◌<◌, ℤ, Float, length, take}
+use Rattle.std.specs.Prelude.{List, [], ◌∷◌, ◌≡◌, ℕ, ◌+◌, ◌-◌, ◌*◌, ◌<◌, ℤ, Float, length, take, Some, None}
 use Rattle.std.proofs.Math.Option.{get_or}
 use Rattle.times.specs.Grid.{grid}
 use Rattle.series.specs.Answers.{Outcome}
 use Rattle.steps.specs.Choice.{step_of}
 use Rattle.rollup.specs.Choice.{rollup_of}
 use Rattle.run.specs.Run.{Lent}
-use Rattle.harzoulin.specs.Runs.{choice_of, numbered_run, numbered_settled_run}
-use Rattle.harzoulin.specs.declared.runs.Choice.{Choice}
-use Rattle.harzoulin.specs.declared.runs.Choice.TheVariants.{Named, Unnamed}
+use Rattle.harzoulin.specs.Runs.{Choice, choice_of, numbered_run, numbered_settled_run}
 use Rattle.claims.specs.Calls.{Call, Settings, run, settled, if_given}
 use Rattle.claims.specs.Cut.{joined, total}
 
@@ -38,8 +36,8 @@ module _ (e : NumberedCall) where
 
   -- the calls of run or settled run that it makes: one, or none where a number names nothing
   abbrev pub made_by : Choice → List Call
-  made_by (Named pre h) = record { times = e.times; values = e.values; pre = pre; handler = h; settings = e.settings; lent = e.lent } ∷ []
-  made_by Unnamed = []
+  made_by (Some (pre, h)) = record { times = e.times; values = e.values; pre = pre; handler = h; settings = e.settings; lent = e.lent } ∷ []
+  made_by None = []
 
   abbrev pub made : List Call
   made = made_by choice

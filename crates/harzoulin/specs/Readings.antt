@@ -1,7 +1,7 @@
 -- `harzoulin_nearest`: nearest, with its answer behind two pointers. `harzoulin_crossings` is crossings as it stands.
 -- Assumes nothing.
-use Rattle.std.specs.Prelude.{ℕ, List, ℤ}
-use Rattle.std.proofs.Math.Option.{Option, none, some}
+use Rattle.std.specs.Prelude.{ℕ, List, ℤ, Option, Some, None}
+use Rattle.std.proofs.Math.Option.{Option as Given, none, some}
 use Rattle.crossings.specs.Nearest.{nearest_of}
 use Rattle.series.specs.Answers.{Outcome, Reply, outcome}
 
@@ -14,9 +14,9 @@ abbrev pub placed : ℕ → ℕ → Placed
 placed f i = record { found = f; nearest = i }
 
 -- 1 and the index of a reading, or 0 twice where there is none
-abbrev pub placed_at : Option (Option ℕ) → Option Placed
-placed_at (some (some i)) = some (placed 1 i)
-placed_at (some none) = some (placed 0 0)
+abbrev pub placed_at : Given (Option ℕ) → Given Placed
+placed_at (some (Some i)) = some (placed 1 i)
+placed_at (some None) = some (placed 0 0)
 placed_at none = none
 
 -- it is lent no slice

@@ -5,8 +5,7 @@ ghost use Rattle.merge_series.specs.Call.{merge_of};
 ghost use Rattle.merge_series.specs.Merge.{series};
 ghost use Rattle.harzoulin.specs.Exported.{crossed, exported};
 
-use crate::refuse;
-use merge_series::Merged;
+use crate::answered;
 
 pub fn harzoulin_merge(
     first_timestamps: &[i64],
@@ -28,12 +27,5 @@ pub fn harzoulin_merge(
         timestamps,
         values,
     );
-    match merged {
-        Err(r) => refuse(r, index),
-        Merged::Length(n) => {
-            *length = n as u64;
-            *index = 0;
-            0
-        }
-    }
+    answered(merged.map(|n| n as u64), length, index)
 }

@@ -6,8 +6,7 @@ ghost use Rattle.harzoulin.specs.Exported.{crossed, exported};
 ghost use Rattle.harzoulin.specs.Prepare.{numbered_prepare};
 
 use crate::refuse;
-use series::{Checked, Refusal};
-use steps::Step;
+use series::Refusal;
 
 pub fn harzoulin_prepare(
     timestamps: &[i64],
@@ -18,12 +17,10 @@ pub fn harzoulin_prepare(
 ) -> u64
     ensures { exported result index.new tt prepared.new ≡ crossed (numbered_prepare (step_of pre) timestamps.now values.now prepared.old) tt }
 {
-    let step = steps::step_of(pre);
-    let Step::Known(known) = step else {
+    let Some(known) = steps::step_of(pre) else {
         return refuse(Refusal::UnknownNumber, index);
     };
-    let checked = prepare::prepare(timestamps, values, known, prepared);
-    if let Err(r) = checked {
+    if let Err(r) = prepare::prepare(timestamps, values, known, prepared) {
         return refuse(r, index);
     }
     *index = 0;

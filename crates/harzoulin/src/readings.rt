@@ -6,8 +6,7 @@ ghost use Rattle.crossings.specs.Crossings.{crossings_of};
 ghost use Rattle.harzoulin.specs.Exported.{crossed, exported};
 ghost use Rattle.harzoulin.specs.Readings.{nearest_outcome, placed};
 
-use crate::refuse;
-use crossings::{Found, Listed};
+use crate::{answered, refuse};
 
 pub fn harzoulin_crossings(
     timestamps: &[i64],
@@ -20,14 +19,7 @@ pub fn harzoulin_crossings(
     ensures { exported result index.new count.new indexes.new ≡ crossed (crossings_of timestamps.now values.now limit indexes.old) count.old }
 {
     let listed = crossings::crossings(timestamps, values, limit, indexes);
-    match listed {
-        Err(r) => refuse(r, index),
-        Listed::Count(n) => {
-            *count = n;
-            *index = 0;
-            0
-        }
-    }
+    answered(listed, count, index)
 }
 
 // Found is 1 and nearest the index, or both are 0 where there is no reading.
@@ -40,16 +32,15 @@ pub fn harzoulin_nearest(
 ) -> u64
     ensures { exported result index.new (placed found.new nearest.new) tt ≡ crossed (nearest_outcome timestamps.now time) (placed found.old nearest.old) }
 {
-    let place = crossings::nearest(timestamps, time);
-    match place {
+    match crossings::nearest(timestamps, time) {
         Err(r) => refuse(r, index),
-        Found::Nothing => {
+        Ok(None) => {
             *found = 0;
             *nearest = 0;
             *index = 0;
             0
         }
-        Found::At(i) => {
+        Ok(Some(i)) => {
             *found = 1;
             *nearest = i as u64;
             *index = 0;

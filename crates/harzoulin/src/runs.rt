@@ -1,64 +1,27 @@
 // `harzoulin_run` and `harzoulin_settled_run`: `run::run` and `run::settled_run` with step and rollup by number.
 // The count is set on acceptance only.
 
-ghost use Rattle.std.proofs.Math.Option.{get_or};
 ghost use Rattle.std.specs.Prelude.{◌≡◌};
 ghost use Rattle.steps.specs.Choice.{step_of};
 ghost use Rattle.rollup.specs.Choice.{rollup_of};
-ghost use Rattle.run.specs.Run.{figures_reply, lent};
+ghost use Rattle.run.specs.Run.{lent};
 ghost use Rattle.harzoulin.specs.Exported.{crossed, exported};
 ghost use Rattle.harzoulin.specs.Runs.{choice_of, numbered_run, numbered_settled_run, settled_config_of};
 ghost use Rattle.harzoulin.specs.Settle.{config_of};
 
-use crate::refuse;
-use rollup::choice::Chosen;
+use crate::{answered, refuse};
 use rollup::handler::RollupHandler;
-use run::Figures;
 use series::Refusal;
 use settings::{RollupConfig, SettledConfig};
-use steps::{PreFunction, Step};
+use steps::PreFunction;
 
 // A step and a rollup, where both numbers name one.
-#[derive(Drop)]
-pub enum Choice {
-    Named {
-        pre: PreFunction,
-        handler: RollupHandler,
-    },
-    Unnamed,
-}
-
-fn choose(pre: u32, rollup: u32, first: f64, second: f64) -> Choice
+fn choose(pre: u32, rollup: u32, first: f64, second: f64) -> Option<(PreFunction, RollupHandler)>
     ensures { result ≡ choice_of (step_of pre) (rollup_of rollup first second) }
 {
-    let step = steps::step_of(pre);
-    let Step::Known(known) = step else {
-        return Choice::Unnamed;
-    };
-    let chosen = rollup::choice::rollup_of(rollup, first, second);
-    let Chosen::Rollup(handler) = chosen else {
-        return Choice::Unnamed;
-    };
-    Choice::Named {
-        pre: known,
-        handler,
-    }
-}
-
-// The answer's number, with the index and the count behind the pointers.
-fn reply(figures: Figures, count: &mut u64, index: &mut u64) -> u64
-    ensures number { result ≡ (figures_reply figures).number }
-    ensures index { index.new ≡ (figures_reply figures).index }
-    ensures count { count.new ≡ get_or (figures_reply figures).values count.old }
-{
-    match figures {
-        Err(r) => refuse(r, index),
-        Ok(n) => {
-            *count = n;
-            *index = 0;
-            0
-        }
-    }
+    let pre = steps::step_of(pre)?;
+    let handler = rollup::choice::rollup_of(rollup, first, second)?;
+    Some((pre, handler))
 }
 
 pub fn harzoulin_run(
@@ -86,12 +49,7 @@ pub fn harzoulin_run(
 ) -> u64
     ensures { exported result index.new count.new (lent dst_values.new prepared.new work.new) ≡ crossed (numbered_run (choice_of (step_of pre) (rollup_of rollup first second)) timestamps.now values.now (config_of start end step window may_adjust_window is_default_rollup lookback_delta min_staleness_interval max_points_per_series samples_scanned_per_call) (lent dst_values.old prepared.old work.old)) count.old }
 {
-    let choice = choose(pre, rollup, first, second);
-    let Choice::Named {
-        pre: named,
-        handler,
-    } = choice
-    else {
+    let Some((named, handler)) = choose(pre, rollup, first, second) else {
         return refuse(Refusal::UnknownNumber, index);
     };
     let rc = RollupConfig {
@@ -109,7 +67,7 @@ pub fn harzoulin_run(
     let figures = run::run(
         timestamps, values, named, handler, rc, dst_values, prepared, work,
     );
-    reply(figures, count, index)
+    answered(figures, count, index)
 }
 
 pub fn harzoulin_settled_run(
@@ -133,12 +91,7 @@ pub fn harzoulin_settled_run(
 ) -> u64
     ensures { exported result index.new count.new (lent dst_values.new prepared.new work.new) ≡ crossed (numbered_settled_run (choice_of (step_of pre) (rollup_of rollup first second)) timestamps.now values.now (settled_config_of start end step window reach samples_scanned_per_call) (lent dst_values.old prepared.old work.old)) count.old }
 {
-    let choice = choose(pre, rollup, first, second);
-    let Choice::Named {
-        pre: named,
-        handler,
-    } = choice
-    else {
+    let Some((named, handler)) = choose(pre, rollup, first, second) else {
         return refuse(Refusal::UnknownNumber, index);
     };
     let sc = SettledConfig {
@@ -152,5 +105,5 @@ pub fn harzoulin_settled_run(
     let figures = run::settled_run(
         timestamps, values, named, handler, sc, dst_values, prepared, work,
     );
-    reply(figures, count, index)
+    answered(figures, count, index)
 }

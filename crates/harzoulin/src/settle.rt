@@ -5,7 +5,6 @@ ghost use Rattle.harzoulin.specs.Exported.{crossed, exported};
 ghost use Rattle.harzoulin.specs.Settle.{config_of, settle_outcome, settled_to};
 
 use crate::refuse;
-use config::settle::Settled;
 use settings::RollupConfig;
 
 // The settled window, the reach and the number of output times are set on acceptance only.
@@ -40,17 +39,12 @@ pub fn harzoulin_settle(
         max_points_per_series,
         samples_scanned_per_call,
     };
-    let settled = config::settle::settle(timestamps, rc);
-    match settled {
+    match config::settle::settle(timestamps, rc) {
         Err(r) => refuse(r, index),
-        Settled::Accepted {
-            window: w,
-            reach: far,
-            points: n,
-        } => {
-            *settled_window = w;
-            *reach = far;
-            *points = n;
+        Ok(settled) => {
+            *settled_window = settled.window;
+            *reach = settled.reach;
+            *points = settled.points;
             *index = 0;
             0
         }
