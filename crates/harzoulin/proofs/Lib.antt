@@ -1,2 +1,0 @@
-pub mod Crossed
-pub mod Settings
