@@ -46,7 +46,7 @@ module _ (p : Plan) where
       → let o = planned k q l in take (length (times_in o q)) o.slices.dst ≡ figures_by p (times_in o q)
   unfolding figures
   answers-in (Err r) q l alike = refl
-  answers-in (Ok tt) q l alike =
+  answers-in (Ok _) q l alike =
       let a = alike refl in
       take_at (figures_by q q.outputs) _ (length q.outputs) (figures-length q q.outputs) ∙ cc
 
@@ -54,7 +54,7 @@ module _ (p : Plan) where
       → let o = planned k q l in get_or o.answer.values 0 ≡ if_given o.answer.values 1 0 * length (prepared_series p) + scans_by p (times_in o q)
   unfolding scans
   count-in (Err r) q l alike = omega arith
-  count-in (Ok tt) q l alike =
+  count-in (Ok _) q l alike =
       let a = alike refl in
       let e : counted_of q ≡ length (prepared_series p) + scans_by p q.outputs = cc in
       e ∙ omega arith

@@ -38,7 +38,7 @@ use Rattle.claims.specs.Merged.{NoneOf1To5, PastFive}
 
 -- it accepts, or its number is above 5
 abbrev Late : Checked → Type 0
-Late (Ok tt) = Unit
+Late (Ok _) = Unit
 Late (Err r) = 5 < (number_and_index r).0
 
 late-if : (condition : Bool) (r : Refusal) → 5 < (number_and_index r).0 → Late (refused_if condition r)
@@ -50,15 +50,15 @@ late-accepted e = rw e tt
 
 late-first : (rows : List Checked) → All Late rows → Late (first_refusal rows)
 late-first [] a = tt
-late-first (Ok tt ∷ rows) a = late-first rows a.1
+late-first (Ok _ ∷ rows) a = late-first rows a.1
 late-first (Err r ∷ rows) a = a.0
 
 past-reply : {A : Type 0} (c : Checked) (x : A) → Late c → PastFive (reply_of c x)
-past-reply (Ok tt) x l = inl refl
+past-reply (Ok _) x l = inl refl
 past-reply (Err r) x l = inr l
 
 past-outcome : {A L : Type 0} (c : Checked) (x : A) (new old : L) → Late c → PastFive (outcome_of c x new old).answer
-past-outcome (Ok tt) x new old l = inl refl
+past-outcome (Ok _) x new old l = inl refl
 past-outcome (Err r) x new old l = inr l
 
 -- ---- the rows after 5

@@ -82,18 +82,18 @@ step-passes (negsuc n) h w = absurd (true≢false (sym h))
 
 -- ---- the rows on slices
 
-refused-not : {r : Refusal} → Err r ≡ Ok tt → ⊥
+refused-not : {r : Refusal} → ◌≡◌ {A = Checked} (Err r) (Ok tt) → ⊥
 refused-not e = let clash : ◌≡◌ {A = ℕ} 0 1 = cc in omega arith
 
 -- where the others accept
 slices-only : (x y : Checked) (d p w : Bool) (q : Plan) (l : Lent) → x ≡ Ok tt → y ≡ Ok tt
     → OnlySlices (planned (first_refusal (x ∷ y ∷ first_refusal (refused_if d OutputShort ∷ refused_if p PreparedShort ∷ refused_if w WorkShort ∷ []) ∷ [])) q l).answer
 slices-only (Err r) y d p w q l e f = absurd (refused-not e)
-slices-only (Ok tt) (Err r) d p w q l e f = absurd (refused-not f)
-slices-only (Ok tt) (Ok tt) true p w q l e f = inr (omega arith, omega arith)
-slices-only (Ok tt) (Ok tt) false true w q l e f = inr (omega arith, omega arith)
-slices-only (Ok tt) (Ok tt) false false true q l e f = inr (omega arith, omega arith)
-slices-only (Ok tt) (Ok tt) false false false q l e f = inl refl
+slices-only (Ok _) (Err r) d p w q l e f = absurd (refused-not f)
+slices-only (Ok _) (Ok _) true p w q l e f = inr (omega arith, omega arith)
+slices-only (Ok _) (Ok _) false true w q l e f = inr (omega arith, omega arith)
+slices-only (Ok _) (Ok _) false false true q l e f = inr (omega arith, omega arith)
+slices-only (Ok _) (Ok _) false false false q l e f = inl refl
 
 all-accepted : (rows : List Checked) → AllAccept rows → first_refusal rows ≡ Ok tt
 all-accepted [] a = refl

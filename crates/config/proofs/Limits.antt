@@ -91,7 +91,7 @@ unfolding outside
 settleable-passes n h = rw (le-ltb n 1 h.some, le-ltb settled_limit n h.small)
 
 given : {A : Type 0} (c : Checked) (x y : A) → reply_of c x ≡ gives y → (c ≡ Ok tt) × (x ≡ y)
-given {A} (Ok tt) x y e = (refl, cc (ap (λ (a : Reply A). a.values) e))
+given {A} (Ok _) x y e = (refl, cc (ap (λ (a : Reply A). a.values) e))
 given {A} (Err r) x y e = absurd (let clash : ◌≡◌ {A = ℕ} 0 1 = cc (ap (λ (a : Reply A). a.values) e) in omega arith)
 
 -- What an accepted settle gives passes row 8 of a settled run.
