@@ -1,9 +1,10 @@
 // The rollups of rollup_fns.rs that go from value to value. Each answers NaN for a window that does not settle it.
 
-ghost use Rattle.std.specs.Prelude.{Float, List, ◌&&◌, not, true, ◌≡◌, ◌≤◌, length};
+ghost use Rattle.std.specs.Prelude.{Float, List, ℕ, ⊤, ◌&&◌, not, true, ◌≡◌, ◌<◌, ◌≤◌, get_or, length};
+ghost use Rattle.std.specs.Float.{binary64};
+ghost use Rattle.std.specs.Float.Ieee.{of_bits};
 ghost use Rattle.std.specs.Float.Ieee.Scale.{finite};
 ghost use Rattle.ieee.specs.Patterns.{floats};
-ghost use Rattle.window.specs.Types.{AllFinite};
 ghost use Rattle.window.specs.Window.{seeded};
 ghost use Rattle.change_rollups.specs.Seeded.{Computes};
 ghost use Rattle.change_rollups.specs.RollupFns.{ascent_over_time_of, below_tolerance, changes_from, changes_of, changes_prometheus_of, descent_over_time_of, gap, increase_pure_of, increases_of, is_change, resets_of, slide_from, slide_of, steps_from, steps_of};
@@ -28,26 +29,57 @@ pub fn rollup_increase_pure(rfa: RollupFuncArg, values: &[u64]) -> f64
     last(values) - rfa.prev_value
 }
 
-// Whether the step from prev_value to v is too small to tell from a rounding error.
-fn change_below_tolerance(v: f64, prev_value: f64) -> bool
-    ensures { result ≡ below_tolerance v prev_value }
-{
-    let step = v - prev_value;
-    if ieee::is_nan(step) {
-        return false;
-    }
-    let tolerance = 1e-12 * ieee::magnitude(v);
-    ieee::magnitude(step) < tolerance
+// How a loop reads the values of a window and compares them.
+trait Reading {
+    // Which values it may be handed.
+    ghost Reads: { Float → Type 0 };
+
+    // The value of a pattern.
+    fn value_of(b: u64) -> f64
+        requires { Reads (of_bits binary64 b) }
+        ensures { result ≡ of_bits binary64 b };
+
+    // Whether the step from prev_value to v is too small to tell from a rounding error.
+    fn is_below_tolerance(v: f64, prev_value: f64) -> bool
+        requires value { Reads v }
+        requires before { Reads prev_value }
+        ensures { result ≡ below_tolerance v prev_value };
 }
 
-// The same for finite values, whose difference is never NaN.
-fn finite_below_tolerance(v: f64, prev_value: f64) -> bool
-    requires value { finite v ≡ true }
-    requires before { finite prev_value ≡ true }
-    ensures { result ≡ below_tolerance v prev_value }
-{
-    let tolerance = 1e-12 * ieee::magnitude(v);
-    ieee::magnitude(v - prev_value) < tolerance
+// Any values: a value may be NaN, and so may a step.
+struct AnyValues;
+
+impl Reading for AnyValues {
+    ghost Reads = { λ v. ⊤ };
+
+    fn value_of(b: u64) -> f64 {
+        ieee::value_of(b)
+    }
+
+    fn is_below_tolerance(v: f64, prev_value: f64) -> bool {
+        let step = v - prev_value;
+        if ieee::is_nan(step) {
+            return false;
+        }
+        let tolerance = 1e-12 * ieee::magnitude(v);
+        ieee::magnitude(step) < tolerance
+    }
+}
+
+// Finite values, whose difference is never NaN.
+struct FiniteValues;
+
+impl Reading for FiniteValues {
+    ghost Reads = { λ v. finite v ≡ true };
+
+    fn value_of(b: u64) -> f64 {
+        ieee::number_of(b)
+    }
+
+    fn is_below_tolerance(v: f64, prev_value: f64) -> bool {
+        let tolerance = 1e-12 * ieee::magnitude(v);
+        ieee::magnitude(v - prev_value) < tolerance
+    }
 }
 
 // Whether x is known to be finite.
@@ -64,7 +96,7 @@ fn is_change(prev_value: f64, v: f64) -> bool
     if v == prev_value {
         return false;
     }
-    !change_below_tolerance(v, prev_value)
+    !AnyValues::is_below_tolerance(v, prev_value)
 }
 
 // How many values differ from the compared one, which is the last that counted.
@@ -123,20 +155,20 @@ fn is_passed_over(down: bool, beyond: bool) -> bool
     if down { !beyond } else { false }
 }
 
-// How many steps between finite values go the given way, those below the tolerance left out.
-fn count_finite_steps(down: bool, prev_value: f64, values: &[u64]) -> f64
-    requires before { finite prev_value ≡ true }
-    requires numbers { AllFinite values.now }
+// How many steps go the given way, those below the tolerance left out.
+fn count_steps_read<R: Reading>(down: bool, prev_value: f64, values: &[u64]) -> f64
+    requires before { R.Reads prev_value }
+    requires each { (i : ℕ) → i < length values.now → R.Reads (of_bits binary64 (get_or values.now i 0)) }
     ensures { result ≡ steps_from down prev_value (floats values.now) }
 {
     let mut compared = prev_value;
     let mut n = 0;
     for b in values {
-        let v = ieee::number_of(*b);
+        let v = R::value_of(*b);
         let beyond = is_beyond(down, compared, v);
         if is_passed_over(down, beyond) {
             compared = v;
-        } else if finite_below_tolerance(v, compared) {
+        } else if R::is_below_tolerance(v, compared) {
             if !beyond {
                 compared = v;
             }
@@ -150,36 +182,16 @@ fn count_finite_steps(down: bool, prev_value: f64, values: &[u64]) -> f64
     ieee::of_count(n)
 }
 
-// The same between values that may be NaN or infinite.
-fn count_any_steps(down: bool, prev_value: f64, values: &[u64]) -> f64
-    ensures { result ≡ steps_from down prev_value (floats values.now) }
-{
-    let mut compared = prev_value;
-    let mut n = 0;
-    for b in values {
-        let v = ieee::value_of(*b);
-        if is_beyond(down, compared, v) {
-            if !change_below_tolerance(v, compared) {
-                n += 1;
-                compared = v;
-            }
-        } else {
-            compared = v;
-        }
-    }
-    ieee::of_count(n)
-}
-
 // How many steps go the given way, those below the tolerance left out.
 fn count_steps(down: bool, prev_value: f64, values: &[u64]) -> f64
     ensures { result ≡ steps_from down prev_value (floats values.now) }
 {
     if is_finite(prev_value) {
         if are_finite(values) {
-            return count_finite_steps(down, prev_value, values);
+            return count_steps_read::<FiniteValues>(down, prev_value, values);
         }
     }
-    count_any_steps(down, prev_value, values)
+    count_steps_read::<AnyValues>(down, prev_value, values)
 }
 
 // What f gives from the predecessor over the window; without a predecessor, from the first value over the others; NaN where there is

@@ -9,4 +9,4 @@ returns-then-v-prev_value c = rw c.if-v-prev_value.true
 
 pub returns : goal.returns
 unfolding ne
-returns c = rw (c.if-v-prev_value.false, ← c.change_below_tolerance.ensures)
+returns c = rw (c.if-v-prev_value.false, ← c.is_below_tolerance.ensures)

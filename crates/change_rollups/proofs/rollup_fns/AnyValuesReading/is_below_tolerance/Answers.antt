@@ -1,11 +1,11 @@
--- `change_rollups::rollup_fns::change_below_tolerance` meets its contract: a step that is NaN is not below anything, and any other is compared as the definition has it.
+-- `change_rollups::rollup_fns::AnyValues::is_below_tolerance` meets its contract: a step that is NaN is not below anything, and any other is compared as the definition has it.
 -- Assumes nothing.
 use mathlib.Core.Path.{◌≡◌, refl, sym, ◌∙◌}
 use mathlib.Core.Bool.{false}
 use lib.Ieee.{Float, nan, inf, fin, binary64, is_nan, lt, sub}
 use Rattle.ieee.specs.Value.{abs_of}
 use Rattle.ieee.proofs.Patterns.{nan_is}
-use Rattle.change_rollups.proofs.rollup_fns.change_below_tolerance.Goals as goal
+use Rattle.change_rollups.proofs.rollup_fns.AnyValuesReading.is_below_tolerance.Goals as goal
 
 -- a step that is a number is one from a number
 number-left : (v p : Float) → is_nan (sub binary64 v p) ≡ false → is_nan v ≡ false
