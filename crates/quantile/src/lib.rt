@@ -10,7 +10,7 @@ ghost use Rattle.ieee.specs.Patterns.{floats};
 ghost use Rattle.sort.specs.Values.{kept};
 ghost use Rattle.order.specs.Order.{Sortable, sorted};
 ghost use Rattle.quantile.specs.Found.{if_number, Finds};
-ghost use Rattle.quantile.specs.Quantile.{quantile_sorted, quantile_of, median_of, mad_of};
+ghost use Rattle.quantile.specs.Quantile.{deviations, quantile_sorted, quantile_of, median_of, mad_of};
 
 use order::Order;
 
@@ -53,6 +53,15 @@ fn keep<F: Fn(u64) -> Option<f64>>(values: &[u64], work: &mut [f64], find: F) ->
         }
     }
     n
+}
+
+// Copies the values' distances from a middle that are no NaN to the front of work, in order, and returns how many there are.
+fn keep_deviations(values: &[u64], middle: f64, work: &mut [f64]) -> usize
+    requires { length values.now ≤ length work.old }
+    ensures value { result ≡ length (kept (deviations middle (floats values.now))) }
+    ensures work_after { work.new ≡ kept (deviations middle (floats values.now)) ++ drop result work.old }
+{
+    keep(values, work, |b| distance(b, middle))
 }
 
 // The quantile of sorted values that are no NaN. No value, and a phi that is NaN, give NaN; a phi
@@ -127,6 +136,6 @@ pub fn mad(values: &[u64], work: &mut [f64]) -> f64
     ensures work_unchanged { drop (2 * length values.now) work.new ≡ drop (2 * length values.now) work.old }
 {
     let middle = median(values, work);
-    let n = keep(values, work, |b| distance(b, middle));
+    let n = keep_deviations(values, middle, work);
     quantile_first(0.5, n, work)
 }

@@ -5,11 +5,9 @@ use mathlib.Core.List.{List}
 use Prim.Native.Nat.{ℕ, ◌*◌, ◌≤◌}
 use native.Mathlib.Omega.{arith}
 use lib.ListN.{length, length-map}
-use lib.Ieee.{Float, binary64, of_bits, sub}
+use lib.Ieee.{Float, binary64, of_bits}
 use Rattle.ieee.specs.Patterns.{floats}
-use Rattle.ieee.specs.Value.{abs_of}
 use Rattle.quantile.specs.Quantile.{deviations, median_of}
-use borrow.Author.Rules.{rules}
 use Rattle.quantile.proofs.Kept.{kept-ready, kept-quantile}
 use Rattle.quantile.proofs.mad.Goals as goal
 
@@ -20,39 +18,35 @@ deviations-length m vs = length-map (floats vs) _ ∙ length-map vs _
 pub quantile_first-requires-clause-n_in_bounds : goal.quantile_first-requires-clause-n_in_bounds
 quantile_first-requires-clause-n_in_bounds c =
     let med = c.median-middle in
-    let k = c.keep-n in
-    let of : Float → Float = λ x. abs_of (sub binary64 x med.result) in
+    let k = c.keep_deviations-n in
     let vs = c.args.values.now in
     let room : 2 * length vs ≤ length med.new.work = omega (arith, med.auto.work, c.requires) in
-    (kept-ready (deviations med.result (floats vs)) med.new.work k.new.work k.result (length vs) (deviations-length med.result vs) (k.ensures.value of (search rules)) (k.ensures.work_after of (search rules)) room k.auto.work).0
+    (kept-ready (deviations med.result (floats vs)) med.new.work k.new.work k.result (length vs) (deviations-length med.result vs) k.ensures.value k.ensures.work_after room k.auto.work).0
 
 pub quantile_first-requires-clause-sortable : goal.quantile_first-requires-clause-sortable
 quantile_first-requires-clause-sortable c =
     let med = c.median-middle in
-    let k = c.keep-n in
-    let of : Float → Float = λ x. abs_of (sub binary64 x med.result) in
+    let k = c.keep_deviations-n in
     let vs = c.args.values.now in
     let room : 2 * length vs ≤ length med.new.work = omega (arith, med.auto.work, c.requires) in
-    (kept-ready (deviations med.result (floats vs)) med.new.work k.new.work k.result (length vs) (deviations-length med.result vs) (k.ensures.value of (search rules)) (k.ensures.work_after of (search rules)) room k.auto.work).1
+    (kept-ready (deviations med.result (floats vs)) med.new.work k.new.work k.result (length vs) (deviations-length med.result vs) k.ensures.value k.ensures.work_after room k.auto.work).1
 
 pub returns-clause-value : goal.returns-clause-value
 returns-clause-value c =
     let med = c.median-middle in
-    let k = c.keep-n in
-    let of : Float → Float = λ x. abs_of (sub binary64 x med.result) in
+    let k = c.keep_deviations-n in
     let vs = c.args.values.now in
     let first = c.quantile_first in
-    (kept-quantile (deviations med.result (floats vs)) med.new.work k.new.work k.result (length vs) (deviations-length med.result vs) (k.ensures.value of (search rules)) (k.ensures.work_after of (search rules))
+    (kept-quantile (deviations med.result (floats vs)) med.new.work k.new.work k.result (length vs) (deviations-length med.result vs) k.ensures.value k.ensures.work_after
     (of_bits binary64 0x3FE0000000000000) first.result first.new.work (first.ensures.value, first.ensures.work_unchanged)).0
     ∙ ap (λ (m : Float). median_of (deviations m (floats vs))) med.ensures.value
 
 pub returns-clause-work_unchanged : goal.returns-clause-work_unchanged
 returns-clause-work_unchanged c =
     let med = c.median-middle in
-    let k = c.keep-n in
-    let of : Float → Float = λ x. abs_of (sub binary64 x med.result) in
+    let k = c.keep_deviations-n in
     let vs = c.args.values.now in
     let first = c.quantile_first in
-    (kept-quantile (deviations med.result (floats vs)) med.new.work k.new.work k.result (length vs) (deviations-length med.result vs) (k.ensures.value of (search rules)) (k.ensures.work_after of (search rules))
+    (kept-quantile (deviations med.result (floats vs)) med.new.work k.new.work k.result (length vs) (deviations-length med.result vs) k.ensures.value k.ensures.work_after
     (of_bits binary64 0x3FE0000000000000) first.result first.new.work (first.ensures.value, first.ensures.work_unchanged)).1
     ∙ med.ensures.work_unchanged
