@@ -1,18 +1,15 @@
 -- A loop over a window, as a fold over the list of its items: what the turns so far made and what is left make the whole.
 -- Assumes nothing.
-use Prim.Native.Nat.{ℕ, zero, suc, ◌+◌, ◌≤◌, ◌<◌}
-use mathlib.Core.Path.{◌≡◌, refl, ap}
+use Prim.Native.Nat.{ℕ, ◌+◌, ◌≤◌, ◌<◌}
+use mathlib.Core.Path.{◌≡◌, refl}
 use mathlib.Core.List.{List, [], ◌∷◌, foldl}
 use native.Mathlib.Omega.{arith}
 use native.Mathlib.Numerals.{add-one}
 use lib.ListN.{length, drop, get_or, drop_of_length-le}
 use lib.Seq.{drop-cons}
-use lib.IntN.{ℤ, pos}
-use native.Mathlib.Nat.{le_of_suc-le-suc, not-suc-le-zero}
 use lib.Ieee.{Float, nan, binary64, of_bits}
 use Rattle.std.specs.List.{fold}
 use Rattle.ieee.specs.Patterns.{floats}
-use Rattle.window.specs.Window.{readings}
 use Rattle.ieee.proofs.Floats.{length-floats, get_or-floats}
 
 -- a fold over the patterns, at the value of each, is the fold over the values
@@ -26,11 +23,6 @@ pub fold-both : {S T : Type 0} (f : S → Float → S) (g : T → Float → T) (
 unfolding floats
 fold-both f g a z [] = refl
 fold-both f g a z (b ∷ l) = fold-both f g (f a (of_bits binary64 b)) (g z (of_bits binary64 b)) l
-
--- a fold over a slice's items
-pub fold-items : {A S : Type 0} (step : S → A → S) (z : S) (l : List A) → fold step z l ≡ foldl step z l
-fold-items step z [] = refl
-fold-items step z (x ∷ l) = fold-items step (step z x) l
 
 -- the fold from s over the items from i on is the whole
 pub record Folded {A S : Type 0} (step : S → A → S) (xs : List A) (whole s : S) (i : ℕ) : Type 0 where
@@ -61,25 +53,3 @@ value l i h =
 
 pub done-values : {S : Type 0} {step : S → Float → S} {whole s : S} (l : List ℕ) {i : ℕ} → length l ≤ i → Folded step (floats l) whole s i → s ≡ whole
 done-values l e h = done (omega (arith, length-floats l)) h
-
--- the reading at i
-pub length-readings : (l : List ℕ) (ts : List ℤ) → length ts ≡ length l → length (readings (floats l) ts) ≡ length l
-unfolding floats readings
-length-readings [] ts h = refl
-length-readings (b ∷ l) [] h = absurd (omega arith)
-length-readings (b ∷ l) (t ∷ ts) h = ap suc (length-readings l ts (omega arith))
-
-get_or-readings : (l : List ℕ) (ts : List ℤ) (i : ℕ) (d : Float × ℤ) → length ts ≡ length l → i < length l → get_or (readings (floats l) ts) i d ≡ (of_bits binary64 (get_or l i 0), get_or ts i (pos 0))
-unfolding floats readings
-get_or-readings [] ts i d h p = absurd (not-suc-le-zero p)
-get_or-readings (b ∷ l) [] i d h p = absurd (omega arith)
-get_or-readings (b ∷ l) (t ∷ ts) zero d h p = refl
-get_or-readings (b ∷ l) (t ∷ ts) (suc i) d h p = get_or-readings l ts i d (omega arith) (le_of_suc-le-suc p)
-
-pub reading : (l : List ℕ) (ts : List ℤ) (i : ℕ) → length ts ≡ length l → i < length l → At (readings (floats l) ts) i (of_bits binary64 (get_or l i 0), get_or ts i (pos 0))
-reading l ts i e h =
-    let h' : i < length (readings (floats l) ts) = omega (arith, length-readings l ts e) in
-    record { here = rw (add-one i, drop-cons (readings (floats l) ts) i (nan, pos 0) h', get_or-readings l ts i (nan, pos 0) e h) }
-
-pub done-readings : {S : Type 0} {step : S → Float × ℤ → S} {whole s : S} (l : List ℕ) (ts : List ℤ) {i : ℕ} → length ts ≡ length l → length l ≤ i → Folded step (readings (floats l) ts) whole s i → s ≡ whole
-done-readings l ts q e h = done (omega (arith, length-readings l ts q)) h

@@ -1,14 +1,13 @@
--- A search from a window's end for the last item that passes a test: the items from i on fail it, so those before i decide.
+-- A search from a window's end for the last item that passes a test: each item after it fails, and where none passes, all do.
 -- Assumes nothing.
-use Prim.Native.Nat.{ℕ, zero, suc, ◌+◌, ◌-◌, ◌≤◌, ◌<◌, zero-le, suc-le-suc}
+use Prim.Native.Nat.{ℕ, zero, suc, ◌+◌, ◌≤◌, ◌<◌, zero-le, suc-le-suc}
 use mathlib.Core.Bool.{Bool, true, false}
-use mathlib.Core.Path.{◌≡◌, refl, sym, ◌∙◌, ap}
+use mathlib.Core.Path.{◌≡◌, refl}
 use mathlib.Core.List.{List, [], ◌∷◌}
 use native.Mathlib.Omega.{arith}
 use native.Mathlib.Numerals.{add-one}
 use native.Mathlib.Nat.{le_of_suc-le-suc, not-suc-le-zero}
-use lib.ListN.{length, take, get_or}
-use lib.Seq.{take-length}
+use lib.ListN.{length, get_or}
 use Rattle.window.specs.Window.{counted, up_to_last}
 
 counted-within : (b : Bool) {m n : ℕ} → m ≤ n → counted b m ≤ suc n
@@ -19,19 +18,6 @@ counted-within false {m = suc m} h = suc-le-suc h
 counted-suc : (b : Bool) (n : ℕ) → counted b (suc n) ≡ suc (suc n)
 counted-suc true n = refl
 counted-suc false n = refl
-
--- the last item decides, or the ones before it
-pub fails-last : {A : Type 0} (passes : A → Bool) (l : List A) (i : ℕ) (d : A) → i < length l → passes (get_or l i d) ≡ false → up_to_last passes (take (suc i) l) ≡ up_to_last passes (take i l)
-unfolding up_to_last
-fails-last passes [] i d h e = absurd (not-suc-le-zero h)
-fails-last passes (x ∷ l) zero d h e = rw e
-fails-last passes (x ∷ l) (suc i) d h e = ap (counted (passes x)) (fails-last passes l i d (le_of_suc-le-suc h) e)
-
-pub passes-last : {A : Type 0} (passes : A → Bool) (l : List A) (i : ℕ) (d : A) → i < length l → passes (get_or l i d) ≡ true → up_to_last passes (take (suc i) l) ≡ suc i
-unfolding up_to_last
-passes-last passes [] i d h e = absurd (not-suc-le-zero h)
-passes-last passes (x ∷ l) zero d h e = rw e
-passes-last passes (x ∷ l) (suc i) d h e = ap (counted (passes x)) (passes-last passes l i d (le_of_suc-le-suc h) e) ∙ counted-suc (passes x) i
 
 -- never more than there are
 pub up-to-within : {A : Type 0} (passes : A → Bool) (l : List A) → up_to_last passes l ≤ length l
@@ -54,33 +40,3 @@ up-to-found passes (x ∷ l) zero d h e fails = rw (e, ← up-to-none passes l d
 up-to-found passes (x ∷ l) (suc i) d h e fails =
     let found : i + 1 ≡ up_to_last passes l = up-to-found passes l i d (le_of_suc-le-suc h) e (λ k q r. fails (suc k) (omega arith) (suc-le-suc r)) in
     rw (← found, add-one i, counted-suc, add-one (suc i))
-
--- the items from i on fail
-pub record Undecided {A : Type 0} (passes : A → Bool) (l : List A) (i : ℕ) : Type 0 where
-  pub within : i ≤ length l
-  pub decides : up_to_last passes (take i l) ≡ up_to_last passes l
-
-pub search-starts : {A : Type 0} {passes : A → Bool} (l : List A) → Undecided passes l (length l)
-search-starts {passes = passes} l = record { within = omega arith; decides = ap (up_to_last passes) (take-length l) }
-
-module _ {A : Type 0} {passes : A → Bool} {l : List A} {i : ℕ} (d : A) (u : Undecided passes l i) (more : 0 < i) where
-  same : suc (i - 1) ≡ i
-  same = omega arith
-
-  pub search-finds : passes (get_or l (i - 1) d) ≡ true → i ≡ up_to_last passes l
-  search-finds e =
-      let h : i - 1 < length l = omega (arith, u.within) in
-      sym (sym u.decides ∙ ap (λ (k : ℕ). up_to_last passes (take k l)) (sym same) ∙ passes-last passes l (i - 1) d h e ∙ same)
-
-  pub search-goes-on : passes (get_or l (i - 1) d) ≡ false → Undecided passes l (i - 1)
-  search-goes-on e =
-      let h : i - 1 < length l = omega (arith, u.within) in
-      record {
-        within = omega (arith, u.within);
-        decides = sym (fails-last passes l (i - 1) d h e) ∙ ap (λ (k : ℕ). up_to_last passes (take k l)) same ∙ u.decides;
-      }
-
-pub search-ends : {A : Type 0} {passes : A → Bool} {l : List A} {i : ℕ} → Undecided passes l i → i ≤ 0 → 0 ≡ up_to_last passes l
-unfolding up_to_last
-search-ends {i = zero} u h = u.decides
-search-ends {i = suc i} u h = absurd (not-suc-le-zero h)

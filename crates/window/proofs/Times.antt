@@ -1,6 +1,6 @@
 -- Times in range: their sums and differences fit an i64.
 -- Assumes nothing.
-use Prim.Native.Nat.{ℕ, ◌+◌, ◌-◌, ◌≤◌, ◌<◌, ◌^◌}
+use Prim.Native.Nat.{◌+◌, ◌-◌, ◌≤◌, ◌<◌, ◌^◌}
 use mathlib.Core.Path.{◌≡◌}
 use native.Mathlib.Omega.{arith}
 use lib.IntN.{ℤ, pos, negsuc, nat_abs, ◌+ℤ◌, ◌-ℤ◌}
@@ -8,7 +8,7 @@ use lib.Signed.{mag}
 use mir.Syntax.{w64}
 use mir.Val.{SFits, to_z, of_z}
 use mathlib.Core.List.{List}
-use lib.ListN.{length, get_or}
+use lib.ListN.{length}
 use Rattle.times.proofs.Milli.{nat_abs-add, nat_abs-sub, read_back}
 use Rattle.window.specs.Window.{first_or, last_or}
 use Rattle.window.specs.Types.{InRange, AllInRange, Ranged}
@@ -37,13 +37,6 @@ first-in ts h = rw (first-at (pos 0) ts) (h 0)
 
 pub last-in : (ts : List ℤ) → AllInRange ts → InRange (last_or (pos 0) ts)
 last-in ts h = rw (last-at (pos 0) ts) (h (length ts - 1))
-
--- what `linear_regression` asks of a window: its times may be subtracted from the output time
-pub fits_after : (r : RollupFuncArg) (ts : List ℤ) {n : ℕ} → (Ranged r ts) × (length ts ≡ n) → (length ts ≡ n) × ((i : ℕ) → i < length ts → SFits w64 (get_or ts i (pos 0) -ℤ to_z w64 (of_z w64 r.curr_timestamp)))
-fits_after r ts h = (
-  h.1,
-  λ i _. rw (back r.curr_timestamp h.0.curr) (difference-fits (get_or ts i (pos 0)) r.curr_timestamp (omega (arith, h.0.times i, h.0.curr))),
-)
 
 module _ {r : RollupFuncArg} {ts : List ℤ} (ranged : Ranged r ts) where
   pub first-ranged : InRange (first_or (pos 0) ts)

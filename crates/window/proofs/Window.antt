@@ -7,8 +7,7 @@ use mathlib.Core.Path.{◌≡◌, refl, sym, ap, ◌∙◌}
 use mathlib.Core.List.{List, [], ◌∷◌}
 use native.Mathlib.Omega.{arith}
 use native.Mathlib.Nat.{le_of_suc-le-suc, not-suc-le-zero}
-use lib.ListN.{length, take, drop, get_or, length-drop}
-use lib.Seq.{take_all}
+use lib.ListN.{length, drop, get_or}
 use lib.Dec.{eqb}
 use borrow.Author.Tests.{eq-eqb, ne_eqb}
 use lib.Ieee.{Float, nan, binary64, is_nan, of_bits}
@@ -20,18 +19,6 @@ use Rattle.std.proofs.lemmas.Option.{slice_get_within, slice_get-get_or}
 use Rattle.ieee.specs.Patterns.{floats}
 use Rattle.ieee.proofs.Floats.{length-floats, get_or-floats}
 use Rattle.window.specs.Window.{is_empty, first_or, last_or, first_of, last_of, seeded}
-
--- the part after the first item, and the one before the last
-pub empty-rest : {A : Type 0} (l : List A) → length l ≡ 0 → l ≡ drop 1 l
-empty-rest [] h = refl
-empty-rest (x ∷ l) h = absurd (omega arith)
-
-pub empty-init : {A : Type 0} (l : List A) → length l ≡ 0 → l ≡ take (length l - 1) l
-empty-init [] h = refl
-empty-init (x ∷ l) h = absurd (omega arith)
-
-pub whole-rest : {A : Type 0} (l : List A) → take (length l - 1) (drop 1 l) ≡ drop 1 l
-whole-rest l = take_all (length l - 1) (drop 1 l) (omega (arith, length-drop 1 l))
 
 -- a test of the length tells whether the window is empty
 pub none : {A : Type 0} (l : List A) → length l ≡ 0 → is_empty l ≡ true
@@ -56,12 +43,6 @@ zero-eqb n h = eq-eqb n 0 (omega arith)
 
 pub pos-eqb : (n : ℕ) → 0 < n → eqb n 0 ≡ false
 pos-eqb n h = ne_eqb n 0 (λ e. omega arith)
-
--- the first and the last item, by their indexes
-pub first-none : {A : Type 0} (d : A) (l : List A) → length l ≡ 0 → first_or d l ≡ d
-unfolding first_or
-first-none d [] h = refl
-first-none d (x ∷ l) h = absurd (omega arith)
 
 pub last_none : {A : Type 0} (d : A) (l : List A) → length l ≡ 0 → last_or d l ≡ d
 unfolding last_or
@@ -91,9 +72,6 @@ pub last-any : {A : Type 0} (d e : A) (l : List A) → (length l ≡ 0 → ⊥) 
 unfolding last_or
 last-any d e [] h = absurd (h refl)
 last-any d e (x ∷ l) h = refl
-
-pub first-value : (l : List ℕ) → (length l ≡ 0 → ⊥) → first_of (floats l) ≡ of_bits binary64 (get_or l 0 0)
-first-value l h = rw (first-at nan (floats l)) (get_or-floats l 0 nan (omega arith))
 
 pub last-value : (l : List ℕ) → (length l ≡ 0 → ⊥) → last_of (floats l) ≡ of_bits binary64 (get_or l (length l - 1) 0)
 last-value l h = rw (last-at nan (floats l), length-floats l) (get_or-floats l (length l - 1) nan (omega arith))

@@ -1,3 +1,2 @@
 pub mod Window
 pub mod Types
-pub mod Samples

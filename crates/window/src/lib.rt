@@ -2,5 +2,4 @@
 // Values are the 64 bits of each binary64, times are milliseconds.
 #![tactic(auto)]
 
-pub mod samples;
 pub mod types;

@@ -40,22 +40,13 @@ pub fn value_at(values: &[u64], i: usize) -> f64
 }
 
 // Whether every value is known to be finite. The fold has no early way out, as `all` has, so that it takes several values at a time:
-// a loop that reads the values after it by `finite_at` is spared more than this one costs.
+// a loop that looks for no NaN in them afterwards is spared more than this one costs.
 pub fn are_finite(values: &[u64]) -> bool
     ensures { result ≡ true → AllFinite values.now }
 {
     values
         .iter()
         .fold(true, |known, b| known & ieee::is_finite(*b))
-}
-
-// The value at i, where all are finite.
-pub fn finite_at(values: &[u64], i: usize) -> f64
-    requires within { i < length values.now }
-    requires numbers { AllFinite values.now }
-    ensures { result ≡ of_bits binary64 (get_or values.now i 0) }
-{
-    ieee::number_of(values[i])
 }
 
 // The first value, NaN where there is none.
