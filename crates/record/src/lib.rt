@@ -23,7 +23,7 @@ fn value_at(values: &[u64], k: usize) -> f64
     }
 }
 
-// The value before k, and NaN where there is none.
+// The value before k, and NaN where there is none. `checked_sub` with a match would be this test again.
 fn value_before(values: &[u64], k: usize) -> f64
     ensures { result ≡ value_before values.now k }
 {
