@@ -1,6 +1,7 @@
 -- How cases are counted.
 -- Assumes nothing.
-use Rattle.std.specs.Prelude.{◌≡◌, cond, ℕ, ◌+◌, ◌-◌, ◌≤◌, ◌<◌, ltb, eqb}
+use Rattle.std.specs.Prelude.{◌≡◌, cond, ℕ, ◌+◌, ◌-◌, ◌≤◌, ◌<◌, ltb, eqb, Option, Some, None}
+use Rattle.std.specs.Option.{option_or}
 use Rattle.replay.specs.declared.Case.{Case}
 use Rattle.replay.specs.declared.Tally.{Tally}
 
@@ -11,23 +12,22 @@ pub record Counted (t : Tally) : Type 0 where
 
 -- one case more, up to a byte, with the stored answer
 abbrev pub passed : Tally → ℕ → Tally
-passed t end =
-    record { at = end; cases = t.cases + 1; differences = t.differences; first = t.first; from = t.from; to = t.to }
+passed t end = record { at = end; cases = t.cases + 1; differences = t.differences; first = t.first }
 
 -- one case more, up to a byte, with another answer; the first such case is remembered
 abbrev pub differed : Tally → ℕ → Tally
 differed t end =
-    let none = eqb (t.differences + 1) 1 in
-    record { at = end; cases = t.cases + 1; differences = t.differences + 1; first = cond none (t.cases + 1) t.first; from = cond none t.at t.from; to = cond none end t.to }
+    record { at = end; cases = t.cases + 1; differences = t.differences + 1; first = option_or t.first (Some (record { number = t.cases + 1; from = t.at; to = end })) }
 
--- after a case of a text of n bytes: one that does not stand whole in it is cut short
-abbrev pub next_of : Tally → ℕ → Case → Tally
-next_of t n c =
+-- after a case of a text of n bytes: one that cannot be read, or does not stand whole in it, is cut short
+abbrev pub next_of : Tally → ℕ → Option Case → Tally
+next_of t n None = differed t n
+next_of t n (Some c) =
     cond (eqb c.len 0) (differed t n)
     (cond (ltb (n - t.at) c.len) (differed t n) (cond c.same (passed t (t.at + c.len)) (differed t (t.at + c.len))))
 
 -- what a program goes by: the tally is that of the rule, is well counted, and has moved on
-pub record After (t : Tally) (n : ℕ) (c : Case) (r : Tally) : Type 0 where
+pub record After (t : Tally) (n : ℕ) (c : Option Case) (r : Tally) : Type 0 where
   pub exact : r ≡ next_of t n c
   pub counted : Counted r
   pub later : t.at < r.at

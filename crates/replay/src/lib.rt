@@ -1,35 +1,25 @@
-// What the programs that replay a list of stored answers share: the tally of cases and differences,
-// and the lines that report it. A program has a function that replays one case, and one loop.
+// What the programs that replay a list of stored answers share: the cases one after the other, the
+// tally of cases and differences, and the lines that report it. A program has a function that replays
+// one case.
 #![tactic(auto)]
 
-ghost use Rattle.std.specs.Prelude.{IfOk, cond, false, ◌≡◌, ◌≤◌, ◌<◌, eqb, drop, length};
-ghost use Rattle.replay.specs.Tally.{After, Counted, differed};
+ghost use Rattle.std.specs.Prelude.{IfOk, IfSome, OnOk, None, cond, ◌≡◌, ◌+◌, ◌*◌, ◌^◌, ◌≤◌, ◌<◌, eqb, drop, length, take};
+ghost use Rattle.replay.specs.Tally.{After, Counted, differed, passed};
 
+use std::alloc::{AllocError, Global};
 use std::io::{self, Read};
+use vectors::{Cursor, Unread};
 
-// Zeros, as many as the longest list may have bytes. The `ensures` gives the length alone, which lending
-// the array as a slice needs.
-pub fn space() -> [u8; 2097152]
-    ensures { 2097152 ≡ length result }
-{
-    [0; 2097152]
-}
+// The bytes of the longest list that is read.
+const LONGEST: u64 = 0x20_0000;
 
-// Reads standard input until it ends or the space is full, and returns how many bytes it put at the start
-// of the space.
-pub fn read(rt: &impl Input, space: &mut [u8]) -> io::Result<usize>
-    ensures { IfOk result (λ n. n ≤ length space.new) }
+// Reads a list until it ends, or LONGEST bytes of it.
+pub fn read<R: Read + Drop>(list: R, alloc: Global) -> io::Result<Vec<u8>>
+    ensures { IfOk result (λ text. IfSome (R.remaining list) (λ bytes. text.items ≡ take (2 ^ 21) bytes)) }
 {
-    let mut reader = rt.reader();
-    let mut n = 0;
-    while n < space.len() {
-        let more = reader.read(&mut space[n..])?;
-        if more == 0 {
-            break;
-        }
-        n += more;
-    }
-    Ok(n)
+    let mut text = Vec::new(alloc);
+    list.take(LONGEST).read_to_end(&mut text)?;
+    Ok(text)
 }
 
 // A case that was replayed: how many bytes it has, and whether the port gave the stored answer.
@@ -39,46 +29,40 @@ pub struct Case {
     pub same: bool,
 }
 
-// A case that cannot be read: like one that is cut short, it counts as a difference, and is the last.
-pub fn unread() -> Case
-    ensures { (result.len ≡ 0) × (result.same ≡ false) }
-{
-    Case {
-        len: 0,
-        same: false,
-    }
-}
-
 // A test's outcome as it is stored.
 pub fn flag(b: bool) -> u64
     ensures { result ≡ cond b 1 0 }
 {
-    if b { 1 } else { 0 }
+    u64::from(b)
+}
+
+// A case that differed: its number, from 1 on, and where it stands.
+#[derive(Clone, Copy)]
+pub struct Difference {
+    pub number: usize,
+    pub from: usize,
+    pub to: usize,
 }
 
 // The byte where the next case begins, the numbers of cases and of differences so far, and the first
-// case that differed: its number, from 1 on, and where it stands.
+// case that differed.
 #[derive(Clone, Copy)]
 pub struct Tally {
     pub at: usize,
     pub cases: usize,
     pub differences: usize,
-    pub first: usize,
-    pub from: usize,
-    pub to: usize,
+    pub first: Option<Difference>,
 }
 
 // No case yet; the first begins at a byte.
 pub fn begin(at: usize) -> Tally
-    ensures { Counted result × (result.at ≡ at) }
+    ensures { Counted result × (result.at ≡ at) × (result.first ≡ None) }
 {
     Tally {
         at,
         cases: 0,
         differences: 0,
-        first: 0,
-        from: 0,
-        to: 0,
+        first: None,
     }
 }
 
@@ -92,42 +76,80 @@ impl Tally {
         &text[at..]
     }
 
+    // The tally after a case with the stored answer that ends at a byte.
+    fn passed(self, end: usize) -> Tally
+        requires { Counted self × (self.at < end) }
+        ensures { result ≡ passed self end }
+    {
+        Tally {
+            at: end,
+            cases: self.cases + 1,
+            ..self
+        }
+    }
+
     // The tally after a difference that ends at a byte.
-    fn differed(mut self, end: usize) -> Tally
+    fn differed(self, end: usize) -> Tally
         requires { Counted self × (self.at < end) }
         ensures { result ≡ differed self end }
     {
-        let from = self.at;
-        self.at = end;
-        self.cases += 1;
-        self.differences += 1;
-        if self.differences == 1 {
-            self.first = self.cases;
-            self.from = from;
-            self.to = end;
+        let number = self.cases + 1;
+        let difference = Difference {
+            number,
+            from: self.at,
+            to: end,
+        };
+        Tally {
+            at: end,
+            cases: number,
+            differences: self.differences + 1,
+            first: self.first.or(Some(difference)),
         }
-        self
     }
 
-    // The tally after a case. One that does not stand whole in the text is cut short: it counts as a
-    // difference, and is the last.
-    pub fn next(mut self, text: &[u8], case: Case) -> Tally
+    // The tally after a case. One that cannot be read, or does not stand whole in the text, is cut short:
+    // it counts as a difference, and is the last.
+    pub fn next(self, text: &[u8], case: Option<Case>) -> Tally
         requires { Counted self × (self.at < length text.now) }
         ensures { After self (length text.now) case result }
     {
-        if case.len == 0 {
+        let left = text.len() - self.at;
+        let Some(case) = case.filter(|case| 0 < case.len && case.len <= left) else {
             return self.differed(text.len());
-        }
-        if text.len() - self.at < case.len {
-            return self.differed(text.len());
-        }
+        };
+        let end = self.at + case.len;
         if case.same {
-            self.at += case.len;
-            self.cases += 1;
-            return self;
+            self.passed(end)
+        } else {
+            self.differed(end)
         }
-        self.differed(self.at + case.len)
     }
+}
+
+// The tally of a list's cases, each of which `case` replays.
+pub fn count_cases<F: Fn(&mut Cursor) -> Result<bool, Unread>>(
+    text: &[u8],
+    alloc: Global,
+    case: F,
+) -> Result<Tally, AllocError>
+    requires { F.IsAlwaysCallable case }
+    ensures { IfOk result (λ t. Counted t × (length text.now ≤ t.at)) }
+{
+    let mut tally = begin(vectors::body(text));
+    // No `for` goes on by the length of each case.
+    while tally.at < text.len() {
+        let mut cursor = Cursor::new(tally.rest(text), alloc);
+        let replayed = match case(&mut cursor) {
+            Ok(same) => Some(Case {
+                len: cursor.at,
+                same,
+            }),
+            Err(Unread::Malformed) => None,
+            Err(Unread::OutOfMemory(error)) => return Err(error),
+        };
+        tally = tally.next(text, replayed);
+    }
+    Ok(tally)
 }
 
 // Writes the numbers of cases and of differences.
@@ -136,16 +158,12 @@ fn print_counts(rt: &impl Print, tally: Tally) -> io::Result<()> {
 }
 
 // Writes the first case that differed, as it stands in the text.
-fn print_first(rt: &impl Print, text: &[u8], tally: Tally) -> io::Result<()> {
-    let from = tally.from;
-    let to = tally.to;
-    print!(rt; "case {}: ", tally.first)?;
-    if from <= to {
-        if to <= text.len() {
-            rt.write_all(&text[from..to])?;
-        }
+fn print_first(rt: &impl Print, text: &[u8], first: Difference) -> io::Result<()> {
+    print!(rt; "case {}: ", first.number)?;
+    match text.get(first.from..first.to) {
+        Some(case) => rt.write_all(case),
+        None => Ok(()),
     }
-    Ok(())
 }
 
 // Reports a tally on standard output, and returns whether nothing differed. A write that fails is passed over.
@@ -153,9 +171,21 @@ pub fn report(rt: &impl Print, text: &[u8], tally: Tally) -> bool
     ensures { result ≡ eqb tally.differences 0 }
 {
     let _ = print_counts(rt, tally);
-    if tally.differences == 0 {
-        return true;
+    if let Some(first) = tally.first {
+        let _ = print_first(rt, text, first);
     }
-    let _ = print_first(rt, text, tally);
-    false
+    tally.differences == 0
+}
+
+// Replays the list on standard input by a function that replays one case, and reports how it went.
+pub fn replay<R, F>(rt: &R, case: F) -> io::Result<()>
+where
+    R: Input + Print + AllocGlobal,
+    F: Fn(&mut Cursor) -> Result<bool, Unread>,
+    requires { F.IsAlwaysCallable case }
+{
+    let text = read(rt.reader(), rt.alloc())?;
+    let tally = count_cases(&text, rt.alloc(), case)?;
+    report(rt, &text, tally);
+    Ok(())
 }

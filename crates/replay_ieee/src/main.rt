@@ -2,54 +2,78 @@
 // operands and the Rust's answer.
 #![tactic(auto)]
 
-use replay::{Case, Tally};
 use std::io;
-use vectors::STEP;
+use vectors::{Cursor, Unread};
 
-// Whether an operation gives the stored answer.
-fn same(op: u64, a: u64, b: u64, stored: u64) -> bool {
-    let x = ieee::value_of(a);
-    match op {
-        0 => ieee::bits_of(root::sqrt(x)) == stored,
-        1 => ieee::bits_of(ieee::floor(x)) == stored,
-        2 => ieee::bits_of(ieee::abs(x)) == stored,
-        3 => replay::flag(ieee::total_lt(x, ieee::value_of(b))) == stored,
-        4 => ieee::bits_of(x) == stored,
-        5 => ieee::to_usize(x) as u64 == stored,
-        6 => ieee::to_i64(x) == vectors::signed(stored),
-        7 => ieee::bits_of(ieee::of_count(a as usize)) == stored,
-        8 => ieee::bits_of(ieee::of_difference(vectors::signed(a))) == stored,
-        9 => ieee::bits_of(ieee::seconds(vectors::signed(a))) == stored,
-        10 => replay::flag(ieee::is_nan(x)) == stored,
-        11 => replay::flag(ieee::is_finite(a)) == stored,
-        _ => false,
+// An operation, or a test, of binary64.
+#[derive(Clone, Copy, Debug, PartialEq, Eq)]
+enum Operation {
+    Sqrt,
+    Floor,
+    Abs,
+    TotalLt,
+    ValueOf,
+    ToUsize,
+    ToI64,
+    OfCount,
+    OfDifference,
+    Seconds,
+    IsNan,
+    IsFinite,
+}
+
+impl TryFrom<u64> for Operation {
+    type Error = Unread;
+
+    fn try_from(number: u64) -> Result<Self, Unread> {
+        match number {
+            0 => Ok(Operation::Sqrt),
+            1 => Ok(Operation::Floor),
+            2 => Ok(Operation::Abs),
+            3 => Ok(Operation::TotalLt),
+            4 => Ok(Operation::ValueOf),
+            5 => Ok(Operation::ToUsize),
+            6 => Ok(Operation::ToI64),
+            7 => Ok(Operation::OfCount),
+            8 => Ok(Operation::OfDifference),
+            9 => Ok(Operation::Seconds),
+            10 => Ok(Operation::IsNan),
+            11 => Ok(Operation::IsFinite),
+            _ => Err(Unread::Malformed),
+        }
     }
 }
 
-// The case that a text begins with.
-fn case(text: &[u8]) -> Case {
-    let op = vectors::word(text, 0);
-    let a = vectors::word(text, STEP);
-    let b = vectors::word(text, 2 * STEP);
-    let stored = vectors::word(text, 3 * STEP);
-    Case {
-        len: 4 * STEP,
-        same: same(op, a, b, stored),
+impl Operation {
+    // Its answer, as it is stored.
+    fn answer(self, a: u64, b: u64) -> u64 {
+        let x = ieee::value_of(a);
+        match self {
+            Operation::Sqrt => ieee::bits_of(root::sqrt(x)),
+            Operation::Floor => ieee::bits_of(ieee::floor(x)),
+            Operation::Abs => ieee::bits_of(ieee::abs(x)),
+            Operation::TotalLt => replay::flag(ieee::total_lt(x, ieee::value_of(b))),
+            Operation::ValueOf => ieee::bits_of(x),
+            Operation::ToUsize => ieee::to_usize(x) as u64,
+            Operation::ToI64 => ieee::to_i64(x).cast_unsigned(),
+            Operation::OfCount => ieee::bits_of(ieee::of_count(a as usize)),
+            Operation::OfDifference => ieee::bits_of(ieee::of_difference(vectors::signed(a))),
+            Operation::Seconds => ieee::bits_of(ieee::seconds(vectors::signed(a))),
+            Operation::IsNan => replay::flag(ieee::is_nan(x)),
+            Operation::IsFinite => replay::flag(ieee::is_finite(a)),
+        }
     }
 }
 
-fn replay(text: &[u8]) -> Tally {
-    let mut tally = replay::begin(vectors::body(text));
-    while tally.at < text.len() {
-        tally = tally.next(text, case(tally.rest(text)));
-    }
-    tally
+// Whether the next case has the stored answer. A number that names no operation counts as a difference.
+fn case(words: &mut Cursor) -> Result<bool, Unread> {
+    let operation = Operation::try_from(words.word()?);
+    let a = words.word()?;
+    let b = words.word()?;
+    let stored = words.word()?;
+    Ok(operation.is_ok_and(|operation| operation.answer(a, b) == stored))
 }
 
 fn main(rt: HostRuntime) -> io::Result<()> {
-    let mut space = replay::space();
-    let n = replay::read(&rt, &mut space)?;
-    let text = &space[..n];
-    replay::report(&rt, text, replay(text));
-    Ok(())
+    replay::replay(&rt, case)
 }

@@ -4,69 +4,80 @@
 
 ghost use Rattle.std.specs.Prelude.{◌*◌, ◌≤◌, length};
 
-use replay::{Case, Tally};
 use std::io;
-use vectors::STEP;
+use vectors::{Cursor, Unread};
 
-// How many parameters a function has.
-fn parameters(op: u64) -> usize
-    ensures { result ≤ 1 }
-{
-    match op {
-        0 => 1,
-        5 => 1,
-        _ => 0,
+// A function of a list of values.
+#[derive(Clone, Copy, Debug, PartialEq, Eq)]
+enum Function {
+    Quantile,
+    Median,
+    Mad,
+    Stdvar,
+    Stddev,
+    ModeNoNans,
+    AreConstValues,
+}
+
+impl TryFrom<u64> for Function {
+    type Error = Unread;
+
+    fn try_from(number: u64) -> Result<Self, Unread> {
+        match number {
+            0 => Ok(Function::Quantile),
+            1 => Ok(Function::Median),
+            2 => Ok(Function::Mad),
+            3 => Ok(Function::Stdvar),
+            4 => Ok(Function::Stddev),
+            5 => Ok(Function::ModeNoNans),
+            7 => Ok(Function::AreConstValues),
+            _ => Err(Unread::Malformed),
+        }
     }
 }
 
-// Whether a function gives the stored answer.
-fn same(op: u64, values: &[u64], parameter: f64, stored: u64, work: &mut [f64]) -> bool
-    requires { 2 * length values.now ≤ length work.old }
-{
-    match op {
-        0 => ieee::bits_of(quantile::quantile(parameter, values, work)) == stored,
-        1 => ieee::bits_of(quantile::median(values, work)) == stored,
-        2 => ieee::bits_of(quantile::mad(values, work)) == stored,
-        3 => ieee::bits_of(math::deviation::stdvar(values)) == stored,
-        4 => ieee::bits_of(math::deviation::stddev(values)) == stored,
-        5 => ieee::bits_of(math::mode::mode_no_nans(parameter, values, work)) == stored,
-        7 => replay::flag(regression::are_const_values(values)) == stored,
-        _ => false,
+impl Function {
+    // Whether a parameter stands after the values.
+    fn has_parameter(self) -> bool {
+        matches!(self, Function::Quantile | Function::ModeNoNans)
+    }
+
+    // Its answer, as it is stored.
+    fn answer(self, values: &[u64], parameter: f64, work: &mut [f64]) -> u64
+        requires { 2 * length values.now ≤ length work.old }
+    {
+        match self {
+            Function::Quantile => ieee::bits_of(quantile::quantile(parameter, values, work)),
+            Function::Median => ieee::bits_of(quantile::median(values, work)),
+            Function::Mad => ieee::bits_of(quantile::mad(values, work)),
+            Function::Stdvar => ieee::bits_of(math::deviation::stdvar(values)),
+            Function::Stddev => ieee::bits_of(math::deviation::stddev(values)),
+            Function::ModeNoNans => {
+                ieee::bits_of(math::mode::mode_no_nans(parameter, values, work))
+            }
+            Function::AreConstValues => replay::flag(regression::are_const_values(values)),
+        }
     }
 }
 
-// The case that a text begins with.
-fn case(text: &[u8]) -> Case {
-    let op = vectors::word(text, 0);
-    let n = vectors::word(text, STEP);
-    if n > 64 {
-        return replay::unread();
-    }
-    let n = n as usize;
-    let mut work = [0.0f64; 128];
-    let values = vectors::words(text, 2 * STEP, n);
-    let at = 2 * STEP + n * STEP;
-    let parameter = ieee::value_of(vectors::word(text, at));
-    let end = at + parameters(op) * STEP;
-    let stored = vectors::word(text, end);
-    Case {
-        len: end + STEP,
-        same: same(op, &values[..n], parameter, stored, &mut work),
-    }
-}
-
-fn replay(text: &[u8]) -> Tally {
-    let mut tally = replay::begin(vectors::body(text));
-    while tally.at < text.len() {
-        tally = tally.next(text, case(tally.rest(text)));
-    }
-    tally
+// Whether the next case has the stored answer. A number that names no function counts as a difference.
+fn case(words: &mut Cursor) -> Result<bool, Unread> {
+    let function = Function::try_from(words.word()?).ok();
+    let n = words.count()?;
+    let values = words.words(n)?;
+    let parameter = if function.is_some_and(Function::has_parameter) {
+        ieee::value_of(words.word()?)
+    } else {
+        0.0
+    };
+    let stored = words.word()?;
+    let Some(function) = function else {
+        return Ok(false);
+    };
+    let mut work = [0.0; 128];
+    Ok(function.answer(&values, parameter, &mut work) == stored)
 }
 
 fn main(rt: HostRuntime) -> io::Result<()> {
-    let mut space = replay::space();
-    let n = replay::read(&rt, &mut space)?;
-    let text = &space[..n];
-    replay::report(&rt, text, replay(text));
-    Ok(())
+    replay::replay(&rt, case)
 }

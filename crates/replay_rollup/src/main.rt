@@ -4,144 +4,137 @@
 // the 49 rollups.
 #![tactic(auto)]
 
-ghost use Rattle.std.specs.Prelude.{◌≡◌, ◌≤◌, ◌<◌, leb, nat_abs, length};
-ghost use Rattle.window.specs.Types.{record_limit};
+ghost use Rattle.std.specs.Prelude.{◌≡◌, ◌≤◌, leb, nat_abs, true, length};
+ghost use Rattle.window.specs.Types.{InRange, record_limit};
 ghost use Rattle.rollup.specs.Eval.{Ready};
 
-use replay::{Case, Tally};
-use rollup::choice::Chosen;
-use series::Checked;
+use series::Refusal;
 use std::io;
-use vectors::STEP;
+use vectors::{Cursor, Unread};
 use window::types::RollupFuncArg;
 
 // The number of rollups.
 const ROLLUPS: u32 = 49;
 
 // How far from 0 a time may lie that a rollup is handed: 2^54.
-const RANGE: i64 = 0x40_0000_0000_0000;
+const RANGE: u64 = 0x40_0000_0000_0000;
 
 // Whether a time of the record is one that a rollup may be handed.
 fn in_range(t: i64) -> bool
-    ensures { result ≡ leb (nat_abs t) record_limit }
+    ensures test { result ≡ leb (nat_abs t) record_limit }
+    ensures in_range { result ≡ true → InRange t }
 {
-    if -RANGE <= t {
-        return t <= RANGE;
+    t.unsigned_abs() <= RANGE
+}
+
+// Whether the times of a record, and its window, are in range.
+fn all_in_range(rfa: RollupFuncArg) -> bool
+    ensures curr { result ≡ true → InRange rfa.curr_timestamp }
+    ensures prev { result ≡ true → InRange rfa.prev_timestamp }
+    ensures next { result ≡ true → InRange rfa.next_timestamp }
+    ensures window { result ≡ true → InRange rfa.window }
+{
+    in_range(rfa.curr_timestamp)
+        && in_range(rfa.prev_timestamp)
+        && in_range(rfa.next_timestamp)
+        && in_range(rfa.window)
+}
+
+// The next word, as a binary64.
+fn value(words: &mut Cursor) -> Result<f64, Unread> {
+    Ok(ieee::value_of(words.word()?))
+}
+
+// The record that the next eight words are.
+fn record(words: &mut Cursor) -> Result<RollupFuncArg, Unread> {
+    Ok(RollupFuncArg {
+        prev_value: value(words)?,
+        prev_timestamp: words.number()?,
+        real_prev_value: value(words)?,
+        real_next_value: value(words)?,
+        has_next: words.number()? != 0,
+        next_timestamp: words.number()?,
+        curr_timestamp: words.number()?,
+        window: words.number()?,
+    })
+}
+
+// A case of at most 64 readings: the parameters, the record, the readings, and the answers of the rollups.
+#[derive(Drop)]
+struct Stored {
+    first: f64,
+    second: f64,
+    rfa: RollupFuncArg,
+    timestamps: Vec<i64>,
+    values: Vec<u64>,
+    answers: Vec<u64>,
+    ghost paired: { length timestamps.items ≡ length values.items },
+    ghost few: { length values.items ≤ 64 },
+}
+
+impl Stored {
+    // The next case.
+    fn read(words: &mut Cursor) -> Result<Stored, Unread> {
+        let first = value(words)?;
+        let second = value(words)?;
+        let rfa = record(words)?;
+        let n = words.count()?;
+        let timestamps = words.times(n)?;
+        let values = words.words(n)?;
+        // It says for which rollups the stored answer is the port's own and not the Rust's.
+        let _departs = words.word()?;
+        let answers = words.words(ROLLUPS as usize)?;
+        Ok(Stored {
+            first,
+            second,
+            rfa,
+            timestamps,
+            values,
+            answers,
+        })
     }
-    false
-}
 
-// The k-th word, as a binary64.
-fn value(text: &[u8], k: usize) -> f64
-    requires { k < 16 }
-{
-    ieee::value_of(vectors::word(text, k * STEP))
-}
-
-// The k-th word, as a signed number.
-fn number(text: &[u8], k: usize) -> i64
-    requires { k < 16 }
-{
-    vectors::signed(vectors::word(text, k * STEP))
-}
-
-// The record of the case that a text begins with.
-fn record(text: &[u8]) -> RollupFuncArg {
-    RollupFuncArg {
-        prev_value: value(text, 2),
-        prev_timestamp: number(text, 3),
-        real_prev_value: value(text, 4),
-        real_next_value: value(text, 5),
-        has_next: number(text, 6) != 0,
-        next_timestamp: number(text, 7),
-        curr_timestamp: number(text, 8),
-        window: number(text, 9),
-    }
-}
-
-// The answer of the rollup with a number, and 0 where there is none.
-fn answer(text: &[u8], k: u32, rfa: RollupFuncArg, values: &[u64], timestamps: &[i64]) -> u64
-    requires { Ready rfa values.now timestamps.now 128 }
-{
-    let mut work = [0.0; 128];
-    let chosen = rollup::choice::rollup_of(k, value(text, 0), value(text, 1));
-    match chosen {
-        Chosen::Rollup(handler) => {
-            rollup::handler::eval(handler, rfa, values, timestamps, &mut work)
+    // The answer of the rollup with a number, and 0 where there is none.
+    fn answer(&self, number: u32) -> u64
+        requires { Ready self.now.rfa self.now.values.items self.now.timestamps.items 128 }
+    {
+        let mut work = [0.0; 128];
+        match rollup::choice::rollup_of(number, self.first, self.second) {
+            Some(handler) => rollup::handler::eval(
+                handler,
+                self.rfa,
+                &self.values,
+                &self.timestamps,
+                &mut work,
+            ),
+            None => 0,
         }
-        Chosen::None => 0,
     }
-}
 
-// Whether the answers of all rollups are the stored ones, which begin at a byte.
-fn answers(text: &[u8], at: usize, rfa: RollupFuncArg, values: &[u64], timestamps: &[i64]) -> bool
-    requires { (at ≤ 4096) × Ready rfa values.now timestamps.now 128 }
-{
-    let mut k = 0;
-    while k < ROLLUPS {
-        let stored = vectors::word(text, at + (k as usize) * STEP);
-        if answer(text, k, rfa, values, timestamps) != stored {
-            return false;
+    // Whether the answers of all rollups are the stored ones.
+    fn same_answers(&self) -> bool
+        requires { Ready self.now.rfa self.now.values.items self.now.timestamps.items 128 }
+    {
+        (0..ROLLUPS)
+            .zip(&self.answers)
+            .all(|(number, answer)| self.answer(number) == *answer)
+    }
+
+    // The same, of readings that the table accepts. A time of the record that is not in range counts as a difference.
+    fn same(&self) -> Result<bool, Refusal> {
+        series::check_times(&self.timestamps)?;
+        if !all_in_range(self.rfa) {
+            return Ok(false);
         }
-        k += 1;
-    }
-    true
-}
-
-// The same, of a record that is yet to be tested: times that the table refuses, and a time of the record
-// that is not in range, count as a difference.
-fn same(text: &[u8], at: usize, rfa: RollupFuncArg, values: &[u64], timestamps: &[i64]) -> bool
-    requires { (at ≤ 4096) × (length timestamps.now ≡ length values.now) × (length values.now ≤ 64) }
-{
-    let times = series::check_times(timestamps);
-    if let Checked::Refused(_) = times {
-        return false;
-    }
-    if !in_range(rfa.curr_timestamp) {
-        return false;
-    }
-    if !in_range(rfa.prev_timestamp) {
-        return false;
-    }
-    if !in_range(rfa.next_timestamp) {
-        return false;
-    }
-    if !in_range(rfa.window) {
-        return false;
-    }
-    answers(text, at, rfa, values, timestamps)
-}
-
-// The case that a text begins with.
-fn case(text: &[u8]) -> Case {
-    let n = vectors::word(text, 10 * STEP);
-    if n > 64 {
-        return replay::unread();
-    }
-    let n = n as usize;
-    let at = 11 * STEP + n * STEP;
-    let timestamps = vectors::times(text, 11 * STEP, n);
-    let values = vectors::words(text, at, n);
-    // the word after the values says for which rollups the stored answer is the port's own and not the Rust's
-    let stored = at + n * STEP + STEP;
-    Case {
-        len: stored + (ROLLUPS as usize) * STEP,
-        same: same(text, stored, record(text), &values[..n], &timestamps[..n]),
+        Ok(self.same_answers())
     }
 }
 
-fn replay(text: &[u8]) -> Tally {
-    let mut tally = replay::begin(vectors::body(text));
-    while tally.at < text.len() {
-        tally = tally.next(text, case(tally.rest(text)));
-    }
-    tally
+// Whether the next case has the stored answers.
+fn case(words: &mut Cursor) -> Result<bool, Unread> {
+    Ok(Stored::read(words)?.same() == Ok(true))
 }
 
 fn main(rt: HostRuntime) -> io::Result<()> {
-    let mut space = replay::space();
-    let n = replay::read(&rt, &mut space)?;
-    let text = &space[..n];
-    replay::report(&rt, text, replay(text));
-    Ok(())
+    replay::replay(&rt, case)
 }

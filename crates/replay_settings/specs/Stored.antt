@@ -1,8 +1,9 @@
--- The words of a case that are settings.
+-- The words of a case that are settings, and those that are what they settle to.
 -- Assumes nothing.
 use Rattle.std.specs.Prelude.{List, ◌≡◌, ℕ, ◌+◌, ◌*◌, eqb, ℤ}
 use Rattle.std.specs.Int.{w64}
 use Rattle.std.proofs.Common.{of_z, to_z}
+use Rattle.config.specs.declared.settle.Settlement.{Settlement}
 use Rattle.settings.specs.declared.RollupConfig.{RollupConfig}
 use Rattle.vectors.specs.Words.{word_at}
 
@@ -22,3 +23,9 @@ pub record StoredSettings (text : List ℕ) (at : ℕ) (rc : RollupConfig) : Typ
   pub staleness : rc.min_staleness_interval ≡ number_at text at 7
   pub limit : rc.max_points_per_series ≡ number_at text at 8
   pub per_call : rc.samples_scanned_per_call ≡ word_at text (at + 9 * 17)
+
+-- what settings settle to has the three words from a byte on
+pub record StoredSettlement (text : List ℕ) (at : ℕ) (s : Settlement) : Type 0 where
+  pub window : s.window ≡ number_at text at 0
+  pub reach : s.reach ≡ number_at text at 1
+  pub points : s.points ≡ word_at text (at + 2 * 17)

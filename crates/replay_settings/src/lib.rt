@@ -2,60 +2,53 @@
 // those that are what they settle to.
 #![tactic(auto)]
 
-ghost use Rattle.std.specs.Prelude.{true, ◌≡◌, ◌<◌};
-ghost use Rattle.config.specs.declared.settle.Settled.TheVariants as Answers;
-ghost use Rattle.replay_settings.specs.Stored.{StoredSettings, number_at};
+ghost use Rattle.std.specs.Prelude.{IfOk, OnOk, Ok, true, ◌≡◌, ◌+◌, ◌*◌};
+ghost use Rattle.replay_settings.specs.Stored.{StoredSettings, StoredSettlement};
 
-use config::settle::Settled;
+use config::settle::Settlement;
+use series::Refusal;
 use settings::RollupConfig;
-use vectors::STEP;
+use vectors::{Cursor, Unread};
 
-// The k-th word from a byte on, as a signed number.
-pub fn number(text: &[u8], at: usize, k: usize) -> i64
-    requires { (at < 4096) × (k < 16) }
-    ensures { result ≡ number_at text.now at k }
+// The settings that the next ten words are.
+pub fn settings(words: &mut Cursor) -> Result<RollupConfig, Unread>
+    ensures kept { words.new.text.now ≡ words.old.text.now }
+    ensures words { IfOk result (StoredSettings words.old.text.now words.old.at) }
+    ensures moved { OnOk result (words.new.at ≡ words.old.at + 17 * 10) }
 {
-    vectors::signed(vectors::word(text, at + k * STEP))
+    Ok(RollupConfig {
+        start: words.number()?,
+        end: words.number()?,
+        step: words.number()?,
+        window: words.number()?,
+        may_adjust_window: words.number()? == 1,
+        is_default_rollup: words.number()? == 1,
+        lookback_delta: words.number()?,
+        min_staleness_interval: words.number()?,
+        max_points_per_series: words.number()?,
+        samples_scanned_per_call: words.word()?,
+    })
 }
 
-// The settings whose ten words begin at a byte.
-pub fn settings(text: &[u8], at: usize) -> RollupConfig
-    requires { at < 4096 }
-    ensures { StoredSettings text.now at result }
+// The window, the reach and the number of output times that the next three words are.
+pub fn settlement(words: &mut Cursor) -> Result<Settlement, Unread>
+    ensures kept { words.new.text.now ≡ words.old.text.now }
+    ensures words { IfOk result (StoredSettlement words.old.text.now words.old.at) }
+    ensures moved { OnOk result (words.new.at ≡ words.old.at + 17 * 3) }
 {
-    RollupConfig {
-        start: number(text, at, 0),
-        end: number(text, at, 1),
-        step: number(text, at, 2),
-        window: number(text, at, 3),
-        may_adjust_window: number(text, at, 4) == 1,
-        is_default_rollup: number(text, at, 5) == 1,
-        lookback_delta: number(text, at, 6),
-        min_staleness_interval: number(text, at, 7),
-        max_points_per_series: number(text, at, 8),
-        samples_scanned_per_call: vectors::word(text, at + 9 * STEP),
-    }
+    let window = words.number()?;
+    let reach = words.number()?;
+    let points = words.word()?;
+    Ok(Settlement {
+        window,
+        reach,
+        points,
+    })
 }
 
-// Whether an answer has the window and the reach that are stored from a byte on, and n output times.
-pub fn same(text: &[u8], at: usize, n: u64, answer: Settled) -> bool
-    requires { at < 4096 }
-    ensures { result ≡ true → answer ≡ Answers.Accepted (number_at text.now at 0) (number_at text.now at 1) n }
+// Whether an answer is the one that is stored.
+pub fn same(stored: Settlement, answer: Result<Settlement, Refusal>) -> bool
+    ensures { result ≡ true → answer ≡ Ok stored }
 {
-    match answer {
-        Settled::Accepted {
-            window,
-            reach,
-            points,
-        } => {
-            if window != number(text, at, 0) {
-                return false;
-            }
-            if reach != number(text, at, 1) {
-                return false;
-            }
-            points == n
-        }
-        Settled::Refused(_) => false,
-    }
+    answer == Ok(stored)
 }

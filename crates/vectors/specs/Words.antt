@@ -1,6 +1,6 @@
 -- The words of a list of stored answers.
 -- Assumes nothing.
-use Rattle.std.specs.Prelude.{List, [], ◌∷◌, Bool, true, cond, ◌&&◌, ◌≡◌, ℕ, suc, ◌+◌, ◌*◌, ◌%◌, ◌^◌, ◌≤◌, leb, eqb, length, take, drop}
+use Rattle.std.specs.Prelude.{List, [], ◌∷◌, cond, ℕ, suc, ◌+◌, ◌*◌, ◌%◌, ◌^◌, leb, eqb, length, take, drop}
 
 -- the first line's length, its end (a byte 10) counted
 unfoldable pub body_of : List ℕ → ℕ
@@ -22,12 +22,3 @@ hex_of bs = hex_from 0 bs
 -- the word whose digits begin at byte `at`, and 0 where it is not whole
 abbrev pub word_at : List ℕ → ℕ → ℕ
 word_at s at = cond (leb (at + 16) (length s)) (hex_of (take 16 (drop at s))) 0
-
--- whether the words from byte `at` on are these numbers
-unfoldable pub agrees : List ℕ → ℕ → List ℕ → Bool
-agrees s at [] = true
-agrees s at (x ∷ xs) = eqb x (word_at s at) && agrees s (at + 17) xs
-
--- the first n entries are there to be lent; the second part follows from the first, and is stated for the proofs that Rattle makes
-abbrev pub Front : {A : Type 0} → ℕ → List A → Type 0
-Front n xs = (n ≤ length xs) × (n ≡ length (take n xs))

@@ -1,124 +1,178 @@
 // Reading a list of stored answers, as compare/ writes it: a first line that says how the list was
 // made, then words of 16 hexadecimal digits, each followed by one space or line end. A word is the
-// 64 bits of a number or of a binary64, so word k stands 17 × k bytes after the first line.
+// 64 bits of a number or of a binary64.
 #![tactic(auto)]
 
-ghost use Rattle.std.specs.Prelude.{◌≡◌, ℕ, ◌+◌, ◌*◌, ◌^◌, ◌≤◌, ◌<◌, pos, get_or, length};
+ghost use Rattle.std.specs.Prelude.{◌%◌, map, ◌≡◌, ℕ, ◌+◌, ◌*◌, ◌^◌, ◌≤◌, ◌<◌, pos, get_or, length, IfOk, OnOk, OnErr, vec_len};
 ghost use Rattle.std.specs.Int.{w64};
 ghost use Rattle.std.proofs.Common.{to_z};
-ghost use Rattle.vectors.specs.Words.{Front, agrees, body_of, digit_of, hex_of, word_at};
+ghost use Rattle.vectors.specs.Words.{body_of, digit_of, hex_of, word_at};
+
+use std::alloc::{AllocError, AllocFailed, Global};
+use std::convert::identity;
+
+// The bytes of a word's digits.
+const DIGITS: usize = 16;
 
 // The bytes of a word and of what follows it.
-pub const STEP: usize = 17;
+const STEP: usize = 17;
+
+// The most readings that a case has.
+const MOST: u64 = 64;
 
 // What ends a line.
 const LINE_END: u8 = b'\n';
 
 // Where the words begin: after the first line's end, or at the text's end where it has none.
+#[tactic(auto, using(crate::proofs::Words::line_ends))]
 pub fn body(text: &[u8]) -> usize
     ensures { result ≡ body_of text.now }
 {
-    let mut i = 0;
-    while i < text.len() {
-        if text[i] == LINE_END {
-            return i + 1;
-        }
-        i += 1;
-    }
-    i
-}
-
-// The word whose digits begin at a byte, and 0 where the text ends before its sixteenth digit.
-pub fn word(text: &[u8], at: usize) -> u64
-    ensures { result ≡ word_at text.now at }
-{
-    let n = text.len();
-    if n < 16 {
-        return 0;
-    }
-    if n - 16 < at {
-        return 0;
-    }
-    let end = at + 16;
-    hex(&text[at..end])
+    text.iter()
+        .position(|b| *b == LINE_END)
+        .map_or(text.len(), |i| i + 1)
 }
 
 // The number that hexadecimal digits spell.
+#[tactic(auto, using(crate::proofs::Words::hex_folds))]
 pub fn hex(digits: &[u8]) -> u64
     ensures { result ≡ hex_of digits.now }
 {
-    let mut w: u64 = 0;
-    let mut i = 0;
-    while i < digits.len() {
-        w = w % 0x1000_0000_0000_0000 * 16 + digit(digits[i]);
-        i += 1;
-    }
-    w
+    digits
+        .iter()
+        .fold(0, |w, b| w % 0x1000_0000_0000_0000 * 16 + digit(*b))
 }
 
 // A digit's value, 0 to 15.
 fn digit(b: u8) -> u64
     ensures { (result ≡ digit_of b) × (result ≤ 15) }
 {
-    let d = b as u64;
-    if d <= 57 {
-        return d % 16;
-    }
-    (d + 9) % 16
+    let d = u64::from(b);
+    if d <= 57 { d % 16 } else { (d + 9) % 16 }
 }
 
 // The signed number whose two's complement a word is.
 pub fn signed(w: u64) -> i64
     ensures { result ≡ to_z w64 w }
 {
-    if w < 0x8000_0000_0000_0000 {
-        w as i64
-    } else {
-        -1 - ((u64::MAX - w) as i64)
+    w.cast_signed()
+}
+
+// Why the next word of a list, or a case, is not read.
+#[derive(Debug, Drop)]
+pub enum Unread {
+    // The text ends before it, or a number is none that may stand there.
+    Malformed,
+    // There is no memory for what it holds.
+    OutOfMemory(AllocError),
+}
+
+impl From<AllocError> for Unread {
+    fn from(error: AllocError) -> Self {
+        Unread::OutOfMemory(error)
     }
 }
 
-// The n words from a byte on, at most 64, and zeros.
-pub fn words(text: &[u8], at: usize, n: usize) -> [u64; 64]
-    requires { (at ≤ 65536) × (n ≤ 64) }
-    ensures front { Front n result }
-    ensures by_index { (k : ℕ) → k < n → get_or result k 0 ≡ word_at text.now (at + 17 * k) }
-{
-    let mut room = [0u64; 64];
-    let mut i = 0;
-    while i < n {
-        room[i] = word(text, at + STEP * i);
-        i += 1;
+impl<T: Drop> From<AllocFailed<T>> for Unread {
+    fn from(error: AllocFailed<T>) -> Self {
+        Unread::OutOfMemory(AllocError::from(error))
     }
-    room
 }
 
-// The same words as signed numbers.
-pub fn times(text: &[u8], at: usize, n: usize) -> [i64; 64]
-    requires { (at ≤ 65536) × (n ≤ 64) }
-    ensures front { Front n result }
-    ensures by_index { (k : ℕ) → k < n → get_or result k (pos 0) ≡ to_z w64 (word_at text.now (at + 17 * k)) }
-{
-    let mut room = [0i64; 64];
-    let mut i = 0;
-    while i < n {
-        room[i] = signed(word(text, at + STEP * i));
-        i += 1;
-    }
-    room
+// The words of a text, read one after the other: the next one begins at a byte of it.
+#[derive(Drop)]
+pub struct Cursor<'a> {
+    pub text: &'a [u8],
+    pub at: usize,
+    pub alloc: Global,
+    ghost within: { at ≤ length text.now },
 }
 
-// Whether the words from a byte on are these.
-pub fn agree(text: &[u8], at: usize, answers: &[u64]) -> bool
-    requires { at + 17 * length answers.now < 2 ^ 64 }
-    ensures { result ≡ agrees text.now at answers.now }
-{
-    let mut i = 0;
-    while i < answers.len() {
-        if answers[i] != word(text, at + STEP * i) {
-            return false;
+impl<'a> Cursor<'a> {
+    // The words from the text's first byte on.
+    pub fn new(text: &'a [u8], alloc: Global) -> Self
+        ensures { (result.text.now ≡ text.now) × (result.at ≡ 0) }
+    {
+        Cursor { text, at: 0, alloc }
+    }
+
+    // The next word.
+    pub fn word(&mut self) -> Result<u64, Unread>
+        ensures kept { self.new.text.now ≡ self.old.text.now }
+        ensures word { IfOk result (λ w. w ≡ word_at self.old.text.now self.old.at) }
+        ensures moved { OnOk result (self.new.at ≡ self.old.at + 17) }
+        ensures end { OnErr result (length self.old.text.now < self.old.at + 17) }
+    {
+        let rest = &self.text[self.at..];
+        if rest.len() < STEP {
+            return Err(Unread::Malformed);
         }
-        i += 1;
+        self.at += STEP;
+        Ok(hex(&rest[..DIGITS]))
     }
-    true
+
+    // The next word, as a signed number.
+    pub fn number(&mut self) -> Result<i64, Unread>
+        ensures kept { self.new.text.now ≡ self.old.text.now }
+        ensures word { IfOk result (λ t. t ≡ to_z w64 (word_at self.old.text.now self.old.at)) }
+        ensures moved { OnOk result (self.new.at ≡ self.old.at + 17) }
+    {
+        Ok(signed(self.word()?))
+    }
+
+    // The next word, as a count of at most MOST.
+    pub fn count(&mut self) -> Result<usize, Unread>
+        ensures kept { self.new.text.now ≡ self.old.text.now }
+        ensures word { IfOk result (λ n. (n ≡ word_at self.old.text.now self.old.at) × (n ≤ 64)) }
+        ensures moved { OnOk result (self.new.at ≡ self.old.at + 17) }
+    {
+        let n = self.word()?;
+        if n > MOST {
+            return Err(Unread::Malformed);
+        }
+        Ok(n as usize)
+    }
+
+    // The next n words, each as `of` has it.
+    fn list<T: Drop, F: Fn(u64) -> T>(&mut self, n: usize, of: F) -> Result<Vec<T>, Unread>
+        requires { F.IsAlwaysCallable of }
+        ensures kept { self.new.text.now ≡ self.old.text.now }
+        ensures moved { OnOk result (self.new.at ≡ self.old.at + 17 * n) }
+        ensures size { IfOk result (λ xs. vec_len xs ≡ n) }
+        ensures by_index { IfOk result (λ xs. (k : ℕ) (d : T) → k < n → F.post of (word_at self.old.text.now (self.old.at + 17 * k)) (get_or xs.items k d)) }
+    {
+        let mut list = Vec::with_capacity(self.alloc, n)?;
+        for _ in 0..n {
+            list.push(of(self.word()?))?;
+        }
+        Ok(list)
+    }
+
+    // The next n words.
+    pub fn words(&mut self, n: usize) -> Result<Vec<u64>, Unread>
+        ensures kept { self.new.text.now ≡ self.old.text.now }
+        ensures moved { OnOk result (self.new.at ≡ self.old.at + 17 * n) }
+        ensures size { IfOk result (λ xs. length xs.items ≡ n) }
+        ensures by_index { IfOk result (λ xs. (k : ℕ) → k < n → get_or xs.items k 0 ≡ word_at self.old.text.now (self.old.at + 17 * k)) }
+    {
+        self.list(n, identity)
+    }
+
+    // The same words as signed numbers.
+    pub fn times(&mut self, n: usize) -> Result<Vec<i64>, Unread>
+        ensures kept { self.new.text.now ≡ self.old.text.now }
+        ensures moved { OnOk result (self.new.at ≡ self.old.at + 17 * n) }
+        ensures size { IfOk result (λ xs. length xs.items ≡ n) }
+        ensures by_index { IfOk result (λ xs. (k : ℕ) → k < n → get_or xs.items k (pos 0) ≡ to_z w64 (word_at self.old.text.now (self.old.at + 17 * k))) }
+    {
+        self.list(n, signed)
+    }
+}
+
+// As many words, none of which is the one in its place: what a slice holds before a call that has to write
+// these words.
+pub fn others(words: &[u64], alloc: Global) -> Result<Vec<u64>, AllocError>
+    ensures { IfOk result (λ xs. xs.items ≡ map (λ w. (w + 1) % 2 ^ 64) words.now) }
+{
+    words.iter().map(|w| w.wrapping_add(1)).collect(alloc)
 }

@@ -7,12 +7,12 @@ use mir.Facts.{to_z-of_z}
 use Rattle.settings.proofs.Passed.{settings-passed}
 use Rattle.settings.specs.Rows.{settings_checked}
 use Rattle.settings.specs.declared.RollupConfig.{RollupConfig}
-use Rattle.series.specs.declared.refusal.Checked.TheVariants.{Accepted}
+use Rattle.std.specs.Prelude.{Ok}
 use Rattle.times.specs.Grid.{OnGrid, Spans, grid_size}
 use Rattle.times.proofs.Milli.{stored_and_read, within-fits}
 use Rattle.replay_search.proofs.same_grid.Goals as goal
 
-module _ (rc : RollupConfig) (e : Accepted ≡ settings_checked rc) where
+module _ (rc : RollupConfig) (e : Ok tt ≡ settings_checked rc) where
   spans : Spans (stored_and_read rc.start) (stored_and_read rc.end) (stored_and_read rc.step)
   spans =
       let p = (settings-passed rc (sym e)).spans in
@@ -22,10 +22,10 @@ module _ (rc : RollupConfig) (e : Accepted ≡ settings_checked rc) where
   on n size k h = record { end = stored_and_read rc.end; spans = spans; below = omega (arith, size) }
 
 pub points-n-requires : goal.points-n-requires
-points-n-requires c = spans c.args.rc c.in_default.ensures
+points-n-requires c = spans c.args.rc c.in_ok-check_settings.ensures
 
 pub same_times-requires-clause-on_grid : goal.same_times-requires-clause-on_grid
-same_times-requires-clause-on_grid c = on c.args.rc c.in_default.ensures _ c.points-n.ensures
+same_times-requires-clause-on_grid c = on c.args.rc c.in_ok-check_settings.ensures _ c.points-n.ensures
 
 pub same_ends-requires-clause-on_grid : goal.same_ends-requires-clause-on_grid
-same_ends-requires-clause-on_grid c = on c.args.rc c.in_default.ensures _ c.points-n.ensures
+same_ends-requires-clause-on_grid c = on c.args.rc c.in_ok-check_settings.ensures _ c.points-n.ensures

@@ -1,0 +1,7 @@
+-- `replay::read` meets its contract: the text is what was read, and that the first LONGEST bytes.
+-- Assumes nothing.
+use Rattle.replay.proofs.Taken.{first_of}
+use Rattle.replay.proofs.read.Goals as goal
+
+pub returns : goal.returns
+returns g c = first_of _ 2097152 _ (rw (c.new-text.ensures.items, c.take.ensures.limit, c.take.ensures.inner) at c.in_ok-read_to_end.ensures.bytes)
