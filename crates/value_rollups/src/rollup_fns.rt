@@ -29,6 +29,7 @@ pub fn rollup_avg(rfa: RollupFuncArg, values: &[u64]) -> f64
 }
 
 // Whether v lies beyond m: below it where the way is down, else above it.
+// `down` is an argument and no const parameter, which the checker does not take in the closure of a fold.
 pub fn is_beyond(down: bool, m: f64, v: f64) -> bool
     ensures { result ≡ beyond down m v }
 {
