@@ -7,4 +7,4 @@ mod slices;
 mod written;
 
 pub use call::merge;
-pub use slices::{Series, SeriesMut};
+pub use slices::Series;
