@@ -4,7 +4,7 @@
 
 ghost use Rattle.std.specs.Prelude.{◌≡◌};
 ghost use Rattle.series.specs.Answers.{outcome, reply};
-ghost use Rattle.run.specs.Run.{run_of, settled_run_of};
+ghost use Rattle.run.specs.Run.{lent, run_of, settled_run_of};
 
 use config::settle::settle_settings;
 use rollup::handler::RollupHandler;
@@ -14,9 +14,9 @@ use settings::{RollupConfig, SettledConfig, check_settled};
 use steps::PreFunction;
 
 mod execute;
-mod lent;
 
-pub use lent::Lent;
+// The three slices are lent one by one. Of a struct that holds them by `&mut` these functions prove the same, but a caller that makes it of
+// its own slices is told what they hold afterwards only once it reads the struct again.
 
 // The number of samples counted, and the figures over the grid of rc, with the window and the reach that the series and rc settle to.
 pub fn run(
@@ -25,9 +25,11 @@ pub fn run(
     pre: PreFunction,
     handler: RollupHandler,
     rc: RollupConfig,
-    slices: &mut Lent,
+    dst_values: &mut [u64],
+    prepared: &mut [u64],
+    work: &mut [f64],
 ) -> Result<u64, Refusal>
-    ensures { outcome (reply result) slices.new ≡ run_of timestamps.now values.now pre handler rc slices.old }
+    ensures { outcome (reply result) (lent dst_values.new prepared.new work.new) ≡ run_of timestamps.now values.now pre handler rc (lent dst_values.old prepared.old work.old) }
 {
     check_series(timestamps, values)?;
     let settled = settle_settings(timestamps, rc)?;
@@ -39,7 +41,9 @@ pub fn run(
         reach: settled.reach,
         samples_scanned_per_call: rc.samples_scanned_per_call,
     };
-    execute::execute_within(timestamps, values, pre, handler, course, slices)
+    execute::execute_within(
+        timestamps, values, pre, handler, course, dst_values, prepared, work,
+    )
 }
 
 // The number of samples counted, and the figures over the grid of sc, with the window and the reach that it is given.
@@ -49,11 +53,22 @@ pub fn settled_run(
     pre: PreFunction,
     handler: RollupHandler,
     sc: SettledConfig,
-    slices: &mut Lent,
+    dst_values: &mut [u64],
+    prepared: &mut [u64],
+    work: &mut [f64],
 ) -> Result<u64, Refusal>
-    ensures { outcome (reply result) slices.new ≡ settled_run_of timestamps.now values.now pre handler sc slices.old }
+    ensures { outcome (reply result) (lent dst_values.new prepared.new work.new) ≡ settled_run_of timestamps.now values.now pre handler sc (lent dst_values.old prepared.old work.old) }
 {
     check_series(timestamps, values)?;
     check_settled(sc)?;
-    execute::execute_within(timestamps, values, pre, handler, settled_course(sc), slices)
+    execute::execute_within(
+        timestamps,
+        values,
+        pre,
+        handler,
+        settled_course(sc),
+        dst_values,
+        prepared,
+        work,
+    )
 }

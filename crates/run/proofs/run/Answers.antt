@@ -16,7 +16,7 @@ use Rattle.series.proofs.Accepted.{all-accept}
 use Rattle.times.specs.Grid.{grid_size}
 use Rattle.times.proofs.Milli.{within-fits}
 use Rattle.outputs.specs.Place.{Allowed}
-use Rattle.run.specs.Run.{executed, lent_checked, run_checked, run_course, run_plan}
+use Rattle.run.specs.Run.{executed, lent, lent_checked, run_checked, run_course, run_plan}
 use Rattle.run.proofs.Passed.{goes_by, run_sound, settling-accepted, settling_refused}
 use Rattle.run.proofs.run.Goals as goal
 
@@ -56,7 +56,7 @@ returns-in_err-settled c =
     let ts = c.args.timestamps.now in
     let vs = c.args.values.now in
     let rc = c.args.rc in
-    let l = c.args.slices.now in
+    let l = lent c.args.dst_values.now c.args.prepared.now c.args.work.now in
     let series-ok : series_checked ts vs ≡ Ok tt = sym c.check_series.ensures ∙ c.in_ok-check_series.was in
     let said : refuses x ≡ reply_of (settings_checked rc) (settlement ts rc) = rw c.in_err-settled.was at c.settle_settings.ensures in
     let p = err_from_is_err_and c.from_residual-in_err-settled.result c.from_residual-in_err-settled.ensures.1 in
@@ -78,7 +78,7 @@ returns c =
     let us = c.args.timestamps.now in
     let vs = c.args.values.now in
     let rc = c.args.rc in
-    let l = c.args.slices.now in
+    let l = lent c.args.dst_values.now c.args.prepared.now c.args.work.now in
     let series-ok : series_checked us vs ≡ Ok tt = sym c.check_series.ensures ∙ c.in_ok-check_series.was in
     let times = times-ok us vs series-ok in
     let s = settling-accepted (settings_checked rc) (settlement us rc) c.in_ok-settled.settled (rw c.in_ok-settled.was at c.settle_settings.ensures) in

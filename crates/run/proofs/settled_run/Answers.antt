@@ -7,7 +7,7 @@ use Rattle.settings.proofs.Passed.{last_row}
 use Rattle.series.specs.Rows.{series_checked}
 use Rattle.std.specs.Prelude.{Ok}
 use Rattle.std.proofs.lemmas.Result.{err_from_is_err_and}
-use Rattle.run.specs.Run.{lent_checked, settled_checked}
+use Rattle.run.specs.Run.{lent, lent_checked, settled_checked}
 use Rattle.run.proofs.Passed.{goes_by, settled-sound}
 use Rattle.run.proofs.settled_run.Goals as goal
 
@@ -32,6 +32,6 @@ unfolding settled_checked
 returns c =
     let series-ok : series_checked c.args.timestamps.now c.args.values.now ≡ Ok tt = sym c.check_series.ensures ∙ c.in_ok-check_series.was in
     let settings-ok : settled_settings c.args.sc ≡ Ok tt = sym c.check_settled.ensures ∙ c.in_ok-check_settled.was in
-    let l = c.args.slices.now in
+    let l = lent c.args.dst_values.now c.args.prepared.now c.args.work.now in
     rw (series-ok, settings-ok, last_row (lent_checked (length c.args.values.now) (settled_course c.args.sc).points l))
     (rw c.settled_course.ensures at c.execute_within.ensures)
