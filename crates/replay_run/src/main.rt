@@ -5,250 +5,208 @@
 // Where it is accepted, the settled run with the stored window and reach must give the same count and answers.
 #![tactic(auto)]
 
-ghost use Rattle.std.specs.Prelude.{◌≤◌, ◌<◌, length};
-
-use replay::{Case, Tally};
-use rollup::choice::Chosen;
+use config::settle::Settlement;
 use rollup::handler::RollupHandler;
-use run::Figures;
+use run::Lent;
+use series::Refusal;
 use settings::{RollupConfig, SettledConfig};
 use std::io;
-use steps::{PreFunction, Step};
-use vectors::STEP;
+use steps::PreFunction;
+use vectors::{Cursor, Unread};
 
 // The number of rollups.
 const ROLLUPS: u32 = 49;
 
-// Whether what a run gave, and what it left as answers, is stored from a byte on, its answers from another.
-fn same_figures(text: &[u8], at: usize, from: usize, figures: Figures, answers: &[u64]) -> bool
-    requires { (at < 4096) × (from ≤ 65536) × (length answers.now ≤ 64) }
-{
-    let refused = answers.len() == 0;
-    match figures {
-        Figures::Counted(n) => {
-            if refused {
-                return false;
-            }
-            if n != vectors::word(text, at + 2 * STEP) {
-                return false;
-            }
-            vectors::agree(text, from, answers)
-        }
-        Figures::Refused(r) => {
-            if !refused {
-                return false;
-            }
-            if r.number() != vectors::word(text, at) {
-                return false;
-            }
-            r.index() == vectors::word(text, at + STEP)
-        }
-    }
-}
-
 // A call: a run with its settings, or a settled run with its own.
-#[derive(Drop)]
+#[derive(Clone, Copy)]
 enum Call {
     Run(RollupConfig),
     Settled(SettledConfig),
 }
 
-// The settled run whose window and reach are stored from a byte on, over the grid of rc.
-fn settled(text: &[u8], at: usize, rc: RollupConfig) -> Call
-    requires { at < 4096 }
-{
-    Call::Settled(SettledConfig {
-        start: rc.start,
-        end: rc.end,
-        step: rc.step,
-        window: replay_settings::number(text, at, 0),
-        reach: replay_settings::number(text, at, 1),
-        samples_scanned_per_call: rc.samples_scanned_per_call,
-    })
+// What a call is to give beside its answers: a count, where the settings settle to these, or a refusal with a
+// number and an index.
+#[derive(Clone, Copy)]
+enum Outcome {
+    Counted { count: u64, settled: Settlement },
+    Refused { number: u64, index: u64 },
 }
 
-// What a call gives.
-fn figures_of(
-    timestamps: &[i64],
-    values: &[u64],
-    pre: PreFunction,
-    handler: RollupHandler,
-    call: Call,
-    answers: &mut [u64],
-    prepared: &mut [u64],
-) -> Figures {
-    let mut work = [1.0; 128];
-    match call {
-        Call::Run(rc) => run::run(
-            timestamps, values, pre, handler, rc, answers, prepared, &mut work,
-        ),
-        Call::Settled(sc) => run::settled_run(
-            timestamps, values, pre, handler, sc, answers, prepared, &mut work,
-        ),
-    }
-}
-
-// Whether a call gives what is stored.
-fn same_within(
-    text: &[u8],
-    at: usize,
-    from: usize,
-    timestamps: &[i64],
-    values: &[u64],
-    pre: PreFunction,
-    handler: RollupHandler,
-    call: Call,
-    answers: &mut [u64],
-    prepared: &mut [u64],
-) -> bool
-    requires { (at < 4096) × (from ≤ 65536) × (length answers.old ≤ 64) }
-{
-    let figures = figures_of(timestamps, values, pre, handler, call, answers, prepared);
-    same_figures(text, at, from, figures, answers)
-}
-
-// The same for g output times.
-fn same_call(
-    text: &[u8],
-    at: usize,
-    from: usize,
-    timestamps: &[i64],
-    values: &[u64],
-    pre: PreFunction,
-    handler: RollupHandler,
-    call: Call,
-    g: usize,
-) -> bool
-    requires { (at < 4096) × (from ≤ 65536) × (length values.now ≤ 64) × (g ≤ 64) }
-{
-    let n = values.len();
-    // what the slices hold beforehand is nothing that is stored: the words that the case begins with
-    let mut answers = vectors::words(text, 0, g);
-    let mut prepared = vectors::words(text, 0, n);
-    same_within(
-        text,
-        at,
-        from,
-        timestamps,
-        values,
-        pre,
-        handler,
-        call,
-        &mut answers[..g],
-        &mut prepared[..n],
-    )
-}
-
-// Whether the run with a numbered rollup gives it and, where it is accepted, the settled run too.
-fn same_rollup(
-    text: &[u8],
-    at: usize,
-    from: usize,
-    timestamps: &[i64],
-    values: &[u64],
-    pre: PreFunction,
-    number: u32,
-    rc: RollupConfig,
-    g: usize,
-) -> bool
-    requires { (at < 4096) × (from ≤ 65536) × (length values.now ≤ 64) × (g ≤ 64) }
-{
-    let first = ieee::value_of(vectors::word(text, STEP));
-    let second = ieee::value_of(vectors::word(text, 2 * STEP));
-    let chosen = rollup::choice::rollup_of(number, first, second);
-    let Chosen::Rollup(handler) = chosen else {
-        return false;
-    };
-    let call = Call::Run(rc);
-    if !same_call(text, at, from, timestamps, values, pre, handler, call, g) {
-        return false;
-    }
-    if g == 0 {
-        return true;
-    }
-    let call = settled(text, at, rc);
-    same_call(text, at, from, timestamps, values, pre, handler, call, g)
-}
-
-// The same of all rollups.
-fn same(
-    text: &[u8],
-    at: usize,
-    timestamps: &[i64],
-    values: &[u64],
-    pre: PreFunction,
-    rc: RollupConfig,
-    g: usize,
-) -> bool
-    requires { (at < 4096) × (length values.now ≤ 64) × (g ≤ 64) }
-{
-    let mut from = at + 5 * STEP;
-    let mut k = 0;
-    while k < ROLLUPS {
-        if !same_rollup(text, at, from, timestamps, values, pre, k, rc, g) {
-            return false;
-        }
-        from += g * STEP;
-        k += 1;
-    }
-    true
-}
-
-// Whether a case of n readings and g output times is replayed, whose answer is stored from a byte on.
-fn replayed(text: &[u8], at: usize, n: usize, g: usize) -> bool
-    requires { (at < 4096) × (n ≤ 64) × (g ≤ 64) }
-{
-    let pre = vectors::word(text, 0);
-    if pre > 5 {
-        return false;
-    }
-    let step = steps::step_of(pre as u32);
-    let Step::Known(pre) = step else {
-        return false;
-    };
-    let timestamps = vectors::times(text, 4 * STEP, n);
-    let values = vectors::words(text, 4 * STEP + n * STEP, n);
-    let rc = replay_settings::settings(text, 4 * STEP + 2 * n * STEP);
-    if g > 0 {
-        let settled = config::settle::settle(&timestamps[..n], rc);
-        if !replay_settings::same(text, at, g as u64, settled) {
-            return false;
+impl Outcome {
+    // Whether a call gave it.
+    fn is(self, figures: Result<u64, Refusal>) -> bool {
+        match (figures, self) {
+            (Ok(n), Outcome::Counted { count, .. }) => n == count,
+            (Err(refusal), Outcome::Refused { number, index }) => {
+                refusal.number() == number && refusal.index() == index
+            }
+            _ => false,
         }
     }
-    same(text, at, &timestamps[..n], &values[..n], pre, rc, g)
 }
 
-// The case that a text begins with.
-fn case(text: &[u8]) -> Case {
-    let n = vectors::word(text, 3 * STEP);
-    if n > 64 {
-        return replay::unread();
+// A case: the preparing step where its number has one, the rollups' parameters, the readings, the settings, and
+// what is stored of the call: the outcome and the answers of each rollup.
+#[derive(Drop)]
+struct Stored {
+    pre: Option<PreFunction>,
+    first: f64,
+    second: f64,
+    timestamps: Vec<i64>,
+    values: Vec<u64>,
+    rc: RollupConfig,
+    outcome: Outcome,
+    answers: Vec<Vec<u64>>,
+}
+
+impl Stored {
+    // The next case.
+    fn read(words: &mut Cursor) -> Result<Stored, Unread> {
+        let pre = u32::try_from(words.word()?)
+            .ok()
+            .and_then(|number| steps::step_of(number));
+        let first = ieee::value_of(words.word()?);
+        let second = ieee::value_of(words.word()?);
+        let n = words.count()?;
+        let timestamps = words.times(n)?;
+        let values = words.words(n)?;
+        let rc = replay_settings::settings(words)?;
+        let window = words.word()?;
+        let reach = words.word()?;
+        let count = words.word()?;
+        // It says where the stored answer is the port's own and not the Rust's.
+        let _departs = words.word()?;
+        let points = words.count()?;
+        let outcome = if points == 0 {
+            Outcome::Refused {
+                number: window,
+                index: reach,
+            }
+        } else {
+            Outcome::Counted {
+                count,
+                settled: Settlement {
+                    window: vectors::signed(window),
+                    reach: vectors::signed(reach),
+                    points: points as u64,
+                },
+            }
+        };
+        let mut answers = Vec::with_capacity(words.alloc, ROLLUPS as usize)?;
+        for _ in 0..ROLLUPS {
+            answers.push(words.words(points)?)?;
+        }
+        Ok(Stored {
+            pre,
+            first,
+            second,
+            timestamps,
+            values,
+            rc,
+            outcome,
+            answers,
+        })
     }
-    let n = n as usize;
-    let at = 14 * STEP + 2 * n * STEP;
-    let g = vectors::word(text, at + 4 * STEP);
-    if g > 64 {
-        return replay::unread();
+
+    // Whether a call gives what is stored, with these answers.
+    fn same_call(
+        &self,
+        pre: PreFunction,
+        handler: RollupHandler,
+        call: Call,
+        stored: &Vec<u64>,
+    ) -> Result<bool, Unread> {
+        let alloc = *stored.allocator();
+        let mut answers = vectors::others(stored, alloc)?;
+        let mut prepared = vectors::others(&self.values, alloc)?;
+        let mut work = [1.0; 128];
+        let mut slices = Lent {
+            dst_values: &mut answers,
+            prepared: &mut prepared,
+            work: &mut work,
+        };
+        let figures = match call {
+            Call::Run(rc) => run::run(
+                &self.timestamps,
+                &self.values,
+                pre,
+                handler,
+                rc,
+                &mut slices,
+            ),
+            Call::Settled(sc) => run::settled_run(
+                &self.timestamps,
+                &self.values,
+                pre,
+                handler,
+                sc,
+                &mut slices,
+            ),
+        };
+        Ok(self.outcome.is(figures) && answers == *stored)
     }
-    let g = g as usize;
-    Case {
-        len: at + 5 * STEP + (ROLLUPS as usize) * g * STEP,
-        same: replayed(text, at, n, g),
+
+    // Whether the run with a numbered rollup gives what is stored and, where it is accepted, the settled run too.
+    fn same_rollup(
+        &self,
+        pre: PreFunction,
+        number: u32,
+        stored: &Vec<u64>,
+    ) -> Result<bool, Unread> {
+        let Some(handler) = rollup::choice::rollup_of(number, self.first, self.second) else {
+            return Ok(false);
+        };
+        if !self.same_call(pre, handler, Call::Run(self.rc), stored)? {
+            return Ok(false);
+        }
+        match self.outcome {
+            Outcome::Refused { .. } => Ok(true),
+            Outcome::Counted { settled, .. } => {
+                let sc = SettledConfig {
+                    start: self.rc.start,
+                    end: self.rc.end,
+                    step: self.rc.step,
+                    window: settled.window,
+                    reach: settled.reach,
+                    samples_scanned_per_call: self.rc.samples_scanned_per_call,
+                };
+                self.same_call(pre, handler, Call::Settled(sc), stored)
+            }
+        }
+    }
+
+    // Whether the settings settle to what is stored.
+    fn same_settled(&self) -> bool {
+        match self.outcome {
+            Outcome::Refused { .. } => true,
+            Outcome::Counted { settled, .. } => {
+                replay_settings::same(settled, config::settle::settle(&self.timestamps, self.rc))
+            }
+        }
+    }
+
+    // Whether all calls give what is stored. A number that has no step counts as a difference.
+    fn same(&self) -> Result<bool, Unread> {
+        let Some(pre) = self.pre else {
+            return Ok(false);
+        };
+        if !self.same_settled() {
+            return Ok(false);
+        }
+        for (number, stored) in (0..ROLLUPS).zip(&self.answers) {
+            if !self.same_rollup(pre, number, stored)? {
+                return Ok(false);
+            }
+        }
+        Ok(true)
     }
 }
 
-fn replay(text: &[u8]) -> Tally {
-    let mut tally = replay::begin(vectors::body(text));
-    while tally.at < text.len() {
-        tally = tally.next(text, case(tally.rest(text)));
-    }
-    tally
+// Whether the next case has the stored answers.
+fn case(words: &mut Cursor) -> Result<bool, Unread> {
+    Stored::read(words)?.same()
 }
 
 fn main(rt: HostRuntime) -> io::Result<()> {
-    let mut space = replay::space();
-    let n = replay::read(&rt, &mut space)?;
-    let text = &space[..n];
-    replay::report(&rt, text, replay(text));
-    Ok(())
+    replay::replay(&rt, case)
 }
