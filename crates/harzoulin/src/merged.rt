@@ -6,6 +6,7 @@ ghost use Rattle.merge_series.specs.Merge.{series};
 ghost use Rattle.harzoulin.specs.Exported.{crossed, exported};
 
 use crate::answered;
+use merge_series::Series;
 
 pub fn harzoulin_merge(
     first_timestamps: &[i64],
@@ -19,13 +20,14 @@ pub fn harzoulin_merge(
 ) -> u64
     ensures { exported result index.new length.new (series timestamps.new values.new) ≡ crossed (merge_of (series first_timestamps.now first_values.now) (series second_timestamps.now second_values.now) (series timestamps.old values.old)) length.old }
 {
-    let merged = merge_series::merge(
-        first_timestamps,
-        first_values,
-        second_timestamps,
-        second_values,
-        timestamps,
-        values,
-    );
+    let first = Series {
+        timestamps: first_timestamps,
+        values: first_values,
+    };
+    let second = Series {
+        timestamps: second_timestamps,
+        values: second_values,
+    };
+    let merged = merge_series::merge(&first, &second, timestamps, values);
     answered(merged.map(|n| n as u64), length, index)
 }
