@@ -7,7 +7,6 @@
 
 use config::settle::Settlement;
 use rollup::handler::RollupHandler;
-use run::Lent;
 use series::Refusal;
 use settings::{RollupConfig, SettledConfig};
 use std::io;
@@ -120,11 +119,6 @@ impl Stored {
         let mut answers = vectors::others(stored, alloc)?;
         let mut prepared = vectors::others(&self.values, alloc)?;
         let mut work = [1.0; 128];
-        let mut slices = Lent {
-            dst_values: &mut answers,
-            prepared: &mut prepared,
-            work: &mut work,
-        };
         let figures = match call {
             Call::Run(rc) => run::run(
                 &self.timestamps,
@@ -132,7 +126,9 @@ impl Stored {
                 pre,
                 handler,
                 rc,
-                &mut slices,
+                &mut answers,
+                &mut prepared,
+                &mut work,
             ),
             Call::Settled(sc) => run::settled_run(
                 &self.timestamps,
@@ -140,7 +136,9 @@ impl Stored {
                 pre,
                 handler,
                 sc,
-                &mut slices,
+                &mut answers,
+                &mut prepared,
+                &mut work,
             ),
         };
         Ok(self.outcome.is(figures) && answers == *stored)
