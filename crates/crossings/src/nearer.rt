@@ -61,7 +61,7 @@ pub fn nearest(timestamps: &[i64], time: i64) -> Result<Option<usize>, Refusal>
     ensures { reply result ≡ nearest_of timestamps.now time }
 {
     check_asked(timestamps, time)?;
-    if timestamps.len() == 0 {
+    if timestamps.is_empty() {
         return Ok(None);
     }
     Ok(Some(seek_nearest(timestamps, time)))

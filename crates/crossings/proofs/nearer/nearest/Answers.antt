@@ -1,7 +1,12 @@
 -- `crossings::nearer::nearest` meets its contract: a refusal is the first row that refuses; an accepted series has times that rise, among which it seeks.
 -- Assumes nothing.
+use Prim.Native.Nat.{◌<◌}
 use mathlib.Core.Path.{◌≡◌, sym, ap, ◌∙◌}
 use native.Mathlib.Omega.{arith}
+use borrow.Author.Tests.{eqb-false, ltb-false, ltb-true}
+use lib.Dec.{ltb}
+use lib.ListN.{length}
+use Rattle.ieee.proofs.Tests.{by-test}
 use mir.Facts.{to_z-of_z}
 use Rattle.times.proofs.Later.{rising-not-falling}
 use Rattle.series.proofs.Accepted.{accepted-times}
@@ -17,5 +22,8 @@ seek_nearest-requires c =
     -- the rows are of the time that was asked
     let checked-is : c.check_asked.result ≡ asked_checked ts t = c.check_asked.ensures ∙ ap (asked_checked ts) (to_z-of_z c.ranges.time) in
     let accepted = asked-accepted ts t (sym checked-is ∙ c.in_ok-check_asked.was) in
+    let some : 0 < length ts =
+    by-test (ltb 0 (length ts)) (λ e. ltb-true _ _ e)
+    (λ e. absurd (eqb-false _ _ (sym c.is_empty.ensures ∙ c.if-is_empty.false) (omega (arith, ltb-false _ _ e)))) in
     let times = accepted-times ts accepted.0 in
-    (rising-not-falling (rising ts times.all_rise), times.all_inside, rw (to_z-of_z c.ranges.time) (inside-within t accepted.1), omega (arith, c.if-timestamps-eq0.false))
+    (rising-not-falling (rising ts times.all_rise), times.all_inside, rw (to_z-of_z c.ranges.time) (inside-within t accepted.1), some)
