@@ -4,22 +4,28 @@
 const SETTLE: &str = include_str!("../../../crates/config/src/settle.rt");
 const REACH: &str = include_str!("../../../crates/config/src/reach.rt");
 
-/// What an accepted settle calls besides: the estimate, and the grid's size, which divides.
-const BESIDE: [&str; 2] = ["estimate::get_scrape_interval", "times::grid::points"];
+/// What an accepted settle calls besides: the estimate, the grid's size, which divides, and the lesser and the greater of two numbers.
+const BESIDE: [&str; 4] =
+    ["estimate::get_scrape_interval", "times::grid::points", "reach::min", "reach::max"];
 
 /// A function's parameters, contract and body, without comments.
 fn function(source: &str, name: &str) -> Option<String> {
-    let (_, from) = source.split_once(&format!("fn {name}("))?;
-    let (text, _) = from.split_once("\n}\n")?;
+    let (before, from) = source.split_once(&format!("fn {name}("))?;
+    let line = &before[before.rfind('\n')? + 1..];
+    let indent = &line[..line.len() - line.trim_start().len()];
+    let (text, _) = from.split_once(&format!("\n{indent}}}\n"))?;
     Some(text.lines().map(|line| line.split("//").next().unwrap_or("")).collect())
 }
 
-/// The paths that are called: those with a parenthesis right behind them.
-fn calls(text: &str) -> impl Iterator<Item = &str> {
+/// The paths that are called: those with a parenthesis right behind them. A method is one of reach's settings.
+fn calls(text: &str) -> impl Iterator<Item = String> + '_ {
     let in_path = |c: char| c.is_alphanumeric() || c == '_' || c == ':';
     let before = text.match_indices('(').map(|(at, _)| &text[..at]);
-    let paths = before.map(move |text| &text[text.trim_end_matches(in_path).len()..]);
-    paths.filter(|path| !path.is_empty())
+    let paths = before.map(move |text| text.split_at(text.trim_end_matches(in_path).len()));
+    paths.filter(|(_, path)| !path.is_empty()).map(|(before, path)| match before.ends_with('.') {
+        true => format!("reach::{path}"),
+        false => path.to_string(),
+    })
 }
 
 /// The functions that an accepted settle goes through, or the one that divides or is not found.
@@ -39,8 +45,8 @@ fn undivided(settle: &str, reach: &str) -> Result<Vec<String>, String> {
         if text.contains(['/', '%']) {
             return Err(format!("{path} divides"));
         }
-        let whole = |call: &str| match call.contains("::") {
-            true => call.to_string(),
+        let whole = |call: String| match call.contains("::") {
+            true => call,
             false => format!("{file}::{call}"),
         };
         left.extend(calls(&text).map(whole));
@@ -75,8 +81,9 @@ fn a_division_put_back_is_seen() {
         (">> 1", "/ 2", "reach::get_max_prev_interval divides"),
         (">> 2", "/ 4", "reach::get_max_prev_interval divides"),
         (">> 3", "/ 8", "reach::get_max_prev_interval divides"),
-        ("return limit;", "return n % limit;", "reach::capped divides"),
-        ("        min_staleness_interval\n", "reach / 1", "reach::bounded_reach divides"),
+        ("n.min(limit)", "n % limit", "reach::capped divides"),
+        (".max(self.min_staleness_interval)", " / 1", "reach::bounded_reach divides"),
+        ("self.step.max(reach)", "self.scaled(reach)", "reach::scaled is not found"),
         ("scrape_interval * 5", "scaled(scrape_interval)", "reach::scaled is not found"),
         ("scrape_interval * 5", "ieee::scaled(5)", "ieee::scaled is not found"),
     ];
