@@ -177,15 +177,16 @@ pub fn report(rt: &impl Print, text: &[u8], tally: Tally) -> bool
     tally.differences == 0
 }
 
-// Replays the list on standard input by a function that replays one case, and reports how it went.
-pub fn replay<R, F>(rt: &R, case: F) -> io::Result<()>
+// Replays the list on standard input by a function that replays one case, reports how it went and answers the tally.
+pub fn replay<R, F>(rt: &R, case: F) -> io::Result<Tally>
 where
     R: Input + Print + AllocGlobal,
     F: Fn(&mut Cursor) -> Result<bool, Unread>,
     requires { F.IsAlwaysCallable case }
+    ensures { IfOk result Counted }
 {
     let text = read(rt.reader(), rt.alloc())?;
     let tally = count_cases(&text, rt.alloc(), case)?;
     report(rt, &text, tally);
-    Ok(())
+    Ok(tally)
 }

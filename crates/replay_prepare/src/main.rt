@@ -21,5 +21,6 @@ fn case(words: &mut Cursor) -> Result<bool, Unread> {
 }
 
 fn main(rt: HostRuntime) -> io::Result<()> {
-    replay::replay(&rt, case)
+    replay::replay(&rt, case)?;
+    Ok(())
 }

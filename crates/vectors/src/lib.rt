@@ -33,6 +33,17 @@ pub fn body(text: &[u8]) -> usize
         .map_or(text.len(), |i| i + 1)
 }
 
+// The word whose digits begin at a byte, and 0 where the text ends before its sixteenth digit.
+pub fn word(text: &[u8], at: usize) -> u64
+    ensures { result ≡ word_at text.now at }
+{
+    let n = text.len();
+    if n < DIGITS || n - DIGITS < at {
+        return 0;
+    }
+    hex(&text[at..at + DIGITS])
+}
+
 // The number that hexadecimal digits spell.
 #[tactic(auto, using(crate::proofs::Words::hex_folds))]
 pub fn hex(digits: &[u8]) -> u64
@@ -103,12 +114,12 @@ impl<'a> Cursor<'a> {
         ensures moved { OnOk result (self.new.at ≡ self.old.at + 17) }
         ensures end { OnErr result (length self.old.text.now < self.old.at + 17) }
     {
-        let rest = &self.text[self.at..];
-        if rest.len() < STEP {
+        if self.text.len() - self.at < STEP {
             return Err(Unread::Malformed);
         }
+        let digits = word(self.text, self.at);
         self.at += STEP;
-        Ok(hex(&rest[..DIGITS]))
+        Ok(digits)
     }
 
     // The next word, as a signed number.
@@ -116,6 +127,7 @@ impl<'a> Cursor<'a> {
         ensures kept { self.new.text.now ≡ self.old.text.now }
         ensures word { IfOk result (λ t. t ≡ to_z w64 (word_at self.old.text.now self.old.at)) }
         ensures moved { OnOk result (self.new.at ≡ self.old.at + 17) }
+        ensures end { OnErr result (length self.old.text.now < self.old.at + 17) }
     {
         Ok(signed(self.word()?))
     }
