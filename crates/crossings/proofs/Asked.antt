@@ -12,7 +12,7 @@ use lib.ListN.{length}
 use Rattle.times.specs.Leading.{leading, leading_run}
 use Rattle.series.specs.Answers.{reply}
 use Rattle.series.specs.Refusals.{first_refusal, refused_if, number_and_index}
-use Rattle.series.specs.Rows.{max_readings, rises, row2, row3, row4, time_inside, times_checked}
+use Rattle.series.specs.Rows.{max_readings, rises, row2, row3, row4, inside_checked, time_inside, times_checked}
 use Rattle.series.specs.declared.refusal.Refusal.{Refusal}
 use Rattle.series.specs.declared.refusal.Refusal.TheVariants.{TooManyReadings, TimeOutside, TimeNotAbove}
 use Rattle.series.specs.Refusals.{Checked}
@@ -30,57 +30,25 @@ pub asked-inside : (ts : List ℤ) (t : ℤ) → time_inside t ≡ true → time
 unfolding times_checked asked_checked
 asked-inside ts t e = rw e (passed_over (row2 ts) (row3 ts) (row4 ts))
 
-module _ (x y z : Bool) (i j : ℕ) where
-  abbrev without : Checked
-  without = first_refusal (refused_if x TooManyReadings ∷ refused_if y (TimeOutside i) ∷ refused_if z (TimeNotAbove j) ∷ [])
-
-  abbrev with : Checked
-  with = first_refusal (refused_if x TooManyReadings ∷ refused_if y (TimeOutside i) ∷ Err (TimeOutside 0) ∷ refused_if z (TimeNotAbove j) ∷ [])
-
--- rows 2 and 3 of the readings come before it
-early : (x y z : Bool) (i j : ℕ) (r : Refusal) → without x y z i j ≡ Err r → (number_and_index r).0 < 4 → Err r ≡ with x y z i j
-early true y z i j r e h = sym e
-early false true z i j r e h = sym e
-early false false true i j r e h = absurd (let four : 4 ≡ (number_and_index r).0 = ap (λ (c : Checked). (reply c).number) e in omega arith)
-early false false false i j r e h = absurd (let clash : ◌≡◌ {A = ℕ} 0 1 = cc in omega arith)
-
--- row 4 comes after it
-late : (x y z : Bool) (i j : ℕ) (r : Refusal) → without x y z i j ≡ Err r → 4 ≤ (number_and_index r).0 → Err (TimeOutside 0) ≡ with x y z i j
-late true y z i j r e h = absurd (let two : 2 ≡ (number_and_index r).0 = ap (λ (c : Checked). (reply c).number) e in omega arith)
-late false true z i j r e h = absurd (let three : 3 ≡ (number_and_index r).0 = ap (λ (c : Checked). (reply c).number) e in omega arith)
-late false false z i j r e h = refl
-
-alone : (x y z : Bool) (i j : ℕ) → without x y z i j ≡ Ok tt → Err (TimeOutside 0) ≡ with x y z i j
-alone true y z i j e = absurd (let clash : ◌≡◌ {A = ℕ} 0 1 = cc in omega arith)
-alone false true z i j e = absurd (let clash : ◌≡◌ {A = ℕ} 0 1 = cc in omega arith)
-alone false false z i j e = refl
-
--- an asked time outside the limits
+-- an asked time outside the limits: rows 2 and 3 of the readings come before it, and row 4 after it
 module _ (ts : List ℤ) (t : ℤ) (outside : time_inside t ≡ false) where
-  abbrev x : Bool
-  x = ltb max_readings (length ts)
+  before : (a b d : Checked) (r : Refusal) → first_refusal (a ∷ b ∷ []) ≡ Err r → first_refusal (a ∷ b ∷ Err (TimeOutside 0) ∷ d ∷ []) ≡ Err r
+  before (Ok s) (Ok u) d r e = absurd (let clash : ◌≡◌ {A = ℕ} 0 1 = cc in omega arith)
+  before (Ok s) (Err q) d r e = e
+  before (Err q) b d r e = e
 
-  abbrev y : Bool
-  y = ltb (leading time_inside ts) (length ts)
+  after : (a b d : Checked) → first_refusal (a ∷ b ∷ []) ≡ Ok tt → first_refusal (a ∷ b ∷ Err (TimeOutside 0) ∷ d ∷ []) ≡ Err (TimeOutside 0)
+  after (Ok s) (Ok u) d e = refl
+  after (Ok s) (Err q) d e = absurd (let clash : ◌≡◌ {A = ℕ} 0 1 = cc in omega arith)
+  after (Err q) b d e = absurd (let clash : ◌≡◌ {A = ℕ} 0 1 = cc in omega arith)
 
-  abbrev z : Bool
-  z = ltb (leading_run rises ts) (length ts)
+  pub asked-before : (r : Refusal) → inside_checked ts ≡ Err r → asked_checked ts t ≡ Err r
+  unfolding inside_checked asked_checked
+  asked-before r e = rw outside (before (row2 ts) (row3 ts) (row4 ts) r e)
 
-  asked_is : asked_checked ts t ≡ with x y z (leading time_inside ts) (leading_run rises ts)
-  unfolding asked_checked
-  asked_is = rw outside
-
-  pub asked-early : (r : Refusal) → times_checked ts ≡ Err r → (number_and_index r).0 < 4 → Err r ≡ asked_checked ts t
-  unfolding times_checked
-  asked-early r e h = early x y z _ _ r e h ∙ sym asked_is
-
-  pub asked-late : (r : Refusal) → times_checked ts ≡ Err r → 4 ≤ (number_and_index r).0 → Err (TimeOutside 0) ≡ asked_checked ts t
-  unfolding times_checked
-  asked-late r e h = late x y z _ _ r e h ∙ sym asked_is
-
-  pub asked-alone : times_checked ts ≡ Ok tt → Err (TimeOutside 0) ≡ asked_checked ts t
-  unfolding times_checked
-  asked-alone e = alone x y z _ _ e ∙ sym asked_is
+  pub asked-after : inside_checked ts ≡ Ok tt → asked_checked ts t ≡ Err (TimeOutside 0)
+  unfolding inside_checked asked_checked
+  asked-after e = rw outside (after (row2 ts) (row3 ts) (row4 ts) e)
 
 -- what the rows leave
 pub asked-accepted : (ts : List ℤ) (t : ℤ) → asked_checked ts t ≡ Ok tt → (times_checked ts ≡ Ok tt) × (time_inside t ≡ true)

@@ -1,45 +1,42 @@
 // The crossings of a limit. They are counted before the first is written, since a slice that is too short must stay as it was.
 
 ghost use Rattle.std.specs.Prelude.{◌≡◌, ◌<◌, length, get_or};
-ghost use Rattle.times.specs.Leading.{leading};
 ghost use Rattle.series.specs.Answers.{outcome, reply};
-ghost use Rattle.series.specs.Rows.{finite_bits};
 ghost use Rattle.crossings.specs.Crossings.{below, crosses, crossing_indexes, crossings_of};
 
-use series::Refusal;
+use series::{FiniteValues, Refusal, Series, check_series};
 
 // The values of an accepted series, beside a limit.
-#[derive(Drop)]
+#[derive(Clone, Copy)]
 struct Sides<'a> {
-    values: &'a [u64],
+    values: FiniteValues<'a>,
     limit: f64,
-    ghost all_finite: { leading finite_bits values.now ≡ length values.now },
 }
 
 impl Sides<'_> {
     // Whether the value at i is below the limit.
     fn is_below(&self, i: usize) -> bool
-        requires { i < length self.now.values.now }
-        ensures { result ≡ below self.now.limit (get_or self.now.values.now i 0) }
+        requires { i < length self.now.values.slice.now }
+        ensures { result ≡ below self.now.limit (get_or self.now.values.slice.now i 0) }
     {
-        ieee::number_of(self.values[i]) < self.limit
+        self.values.number_at(i) < self.limit
     }
 
     // Whether the value at i is on the other side of the limit from the one before.
     fn is_crossing(&self, i: usize) -> bool
-        requires { (0 < i) × (i < length self.now.values.now) }
-        ensures { result ≡ crosses self.now.limit self.now.values.now i }
+        requires { (0 < i) × (i < length self.now.values.slice.now) }
+        ensures { result ≡ crosses self.now.limit self.now.values.slice.now i }
     {
         self.is_below(i - 1) != self.is_below(i)
     }
 
     // How many values are on the other side of the limit from the one before.
     fn count(&self) -> usize
-        ensures { result ≡ length (crossing_indexes self.now.limit self.now.values.now) }
+        ensures { result ≡ length (crossing_indexes self.now.limit self.now.values.slice.now) }
     {
         // `(1..n).filter(..).count()` jumps at each crossing, and took twice as long where they come at random.
         let mut n = 0;
-        for i in 1..self.values.len() {
+        for i in 1..self.values.slice.len() {
             if self.is_crossing(i) {
                 n += 1;
             }
@@ -49,11 +46,11 @@ impl Sides<'_> {
 
     // Writes the crossings' indexes to a slice of their number. An index that is no crossing's is written over by the next one's.
     fn list(&self, indexes: &mut [u64])
-        requires { length indexes.old ≡ length (crossing_indexes self.now.limit self.now.values.now) }
-        ensures { indexes.new ≡ crossing_indexes self.now.limit self.now.values.now }
+        requires { length indexes.old ≡ length (crossing_indexes self.now.limit self.now.values.slice.now) }
+        ensures { indexes.new ≡ crossing_indexes self.now.limit self.now.values.slice.now }
     {
         let mut k = 0;
-        for i in 1..self.values.len() {
+        for i in 1..self.values.slice.len() {
             if k == indexes.len() {
                 return;
             }
@@ -67,19 +64,19 @@ impl Sides<'_> {
 
 // Writes the index of each reading whose value is on the other side of the limit from the one before, in order, to the first entries of
 // indexes, and counts them; or refuses by rows 1 to 5, 15 and 16 and writes nothing.
-pub fn crossings(
-    timestamps: &[i64],
-    values: &[u64],
-    limit: f64,
-    indexes: &mut [u64],
-) -> Result<u64, Refusal>
-    ensures { outcome (reply result) indexes.new ≡ crossings_of timestamps.now values.now limit indexes.old }
+pub fn crossings(series: &Series, limit: f64, indexes: &mut [u64]) -> Result<u64, Refusal>
+    ensures { outcome (reply result) indexes.new ≡ crossings_of series.now.times series.now.values limit indexes.old }
 {
-    series::check_series(timestamps, values)?;
+    check_series(series)?;
     if !limit.is_finite() {
         return Err(Refusal::LimitNotFinite);
     }
-    let sides = Sides { values, limit };
+    let sides = Sides {
+        values: FiniteValues {
+            slice: series.values,
+        },
+        limit,
+    };
     let n = sides.count();
     if indexes.len() < n {
         return Err(Refusal::IndexesShort);

@@ -2,7 +2,6 @@
 
 ghost use Rattle.std.specs.Prelude.{true, ◌≡◌, ◌<◌, ltb, length};
 ghost use Rattle.std.specs.Int.Signed.{le_z};
-ghost use Rattle.times.specs.Later.{NotFalling};
 ghost use Rattle.times.specs.Leading.{leading};
 ghost use Rattle.times.specs.Milli.{time_limit, Within};
 ghost use Rattle.series.specs.Answers.{reply};
@@ -10,21 +9,16 @@ ghost use Rattle.series.specs.Rows.{time_inside};
 ghost use Rattle.crossings.specs.Nearest.{asked_checked, distance, nearest_index, nearest_of};
 
 use series::Refusal;
-use times::search::seek_first_timestamp_idx_after;
+use times::search::Times;
 
 // Rows 2 to 4, and between 3 and 4 that of the asked time.
 fn check_asked(timestamps: &[i64], time: i64) -> Result<(), Refusal>
     ensures { result ≡ asked_checked timestamps.now time }
 {
-    let times = series::check_times(timestamps);
     if series::is_inside(time) {
-        return times;
+        return series::check_times(timestamps);
     }
-    if let Err(r) = times {
-        if r.number() < 4 {
-            return Err(r);
-        }
-    }
+    series::check_inside(timestamps)?;
     Err(Refusal::TimeOutside(0))
 }
 
@@ -38,11 +32,12 @@ fn is_later_nearer(time: i64, earlier: i64, later: i64) -> bool
 
 // The index of the time nearest to the asked one: the last that is not after it, by the first index that has it, or the next one where
 // that is nearer.
-fn seek_nearest(timestamps: &[i64], time: i64) -> usize
-    requires { (NotFalling timestamps.now) × (leading time_inside timestamps.now ≡ length timestamps.now) × (Within time_limit time) × (0 < length timestamps.now) }
-    ensures { result ≡ nearest_index time timestamps.now }
+fn seek_nearest(times: &Times, time: i64) -> usize
+    requires { (leading time_inside times.now.slice.now ≡ length times.now.slice.now) × (Within time_limit time) × (0 < length times.now.slice.now) }
+    ensures { result ≡ nearest_index time times.now.slice.now }
 {
-    let after = seek_first_timestamp_idx_after(timestamps, time, 0);
+    let timestamps = times.slice;
+    let after = times.seek_first_timestamp_idx_after(time, 0);
     if after == 0 {
         return 0;
     }
@@ -52,7 +47,7 @@ fn seek_nearest(timestamps: &[i64], time: i64) -> usize
             return after;
         }
     }
-    seek_first_timestamp_idx_after(timestamps, before - 1, after)
+    times.seek_first_timestamp_idx_after(before - 1, after)
 }
 
 // The index of the reading with the least distance from a time, the lowest of a tie, and none where there is no reading; or the refusal
@@ -64,5 +59,6 @@ pub fn nearest(timestamps: &[i64], time: i64) -> Result<Option<usize>, Refusal>
     if timestamps.is_empty() {
         return Ok(None);
     }
-    Ok(Some(seek_nearest(timestamps, time)))
+    let times = Times { slice: timestamps };
+    Ok(Some(seek_nearest(&times, time)))
 }

@@ -6,7 +6,7 @@ mod refusal;
 mod slices;
 mod values;
 
-pub use checks::{MAX_READINGS, check_series, check_times, is_inside};
+pub use checks::{MAX_READINGS, check_inside, check_series, check_times, is_inside};
 pub use refusal::Refusal;
 pub use slices::Series;
 pub use values::FiniteValues;

@@ -2,35 +2,41 @@
 -- Assumes nothing.
 use Prim.Native.Nat.{ℕ, ◌+◌, ◌≤◌, ◌<◌}
 use mathlib.Core.Path.{◌≡◌, refl}
+use mathlib.Core.Bool.{Bool, true, false}
 use mathlib.Core.List.{List}
 use lib.ListN.{length, get_or, set, drop, drop_of_length-le}
 use lib.Ieee.{Float, binary64, of_bits, to_bits}
 use Rattle.ieee.specs.Patterns.{floats, patterns}
 use Rattle.series.proofs.All.{Finite, Number}
 use Rattle.steps.specs.declared.Counter.{Counter}
-use Rattle.steps.specs.Steps.{begun, counted, outputs_from}
-use Rattle.steps.proofs.Resets.{Keeps, Sound}
+use Rattle.steps.specs.Steps.{begun, compared, next, outputs_from}
+use Rattle.steps.proofs.Resets.{Keeps, Sound, begun-sound, keeps_output, keeps-value}
 use Rattle.times.proofs.Written.{Written, turn, done, left_at}
 
-module _ (compared : Counter → Float) (keeps : Keeps compared) (values : List ℕ) where
-  abbrev next : Counter → Float → Counter
-  next s v = counted (compared s) s v
+keeps : (again : Bool) → Keeps (compared again)
+keeps true = keeps_output
+keeps false = keeps-value
 
+begins : (again : Bool) → Sound (compared again begun) begun
+begins true = begun-sound
+begins false = begun-sound
+
+module _ (again : Bool) (values : List ℕ) where
   -- the outputs of all values
   abbrev outputs : List ℕ
-  outputs = patterns (outputs_from next begun (floats values))
+  outputs = patterns (outputs_from (next again) begun (floats values))
 
   -- i values are done, and led to a state
   pub record Counting (i : ℕ) (prepared : List ℕ) (s : Counter) : Type 0 where
-    pub sound : Sound (compared s) s
-    pub written : Written (length values) i prepared (patterns (outputs_from next s (floats (drop i values)))) outputs
+    pub sound : Sound (compared again s) s
+    pub written : Written (length values) i prepared (patterns (outputs_from (next again) s (floats (drop i values)))) outputs
 
-  pub counting-begins : {prepared : List ℕ} {s : Counter} → Sound (compared begun) begun → s ≡ begun → length prepared ≡ length values → Counting 0 prepared s
-  counting-begins h is-begun e = rw is-begun record { sound = h; written = record { size = e; parts = refl } }
+  pub counting-begins : {prepared : List ℕ} {s : Counter} → s ≡ begun → length prepared ≡ length values → Counting 0 prepared s
+  counting-begins is-begun e = rw is-begun record { sound = begins again; written = record { size = e; parts = refl } }
 
-  module _ {i : ℕ} {prepared : List ℕ} {s t : Counter} (v : Float) (w : Counting i prepared s) (k : Finite v) (is-next : t ≡ next s v) where
-    next-sound : Sound (compared t) t
-    next-sound = rw is-next (keeps s v w.sound k)
+  module _ {i : ℕ} {prepared : List ℕ} {s t : Counter} (v : Float) (w : Counting i prepared s) (k : Finite v) (is-next : t ≡ next again s v) where
+    next-sound : Sound (compared again t) t
+    next-sound = rw is-next (keeps again s v w.sound k)
 
     pub counting-number : Number t.output
     counting-number = next-sound.number

@@ -3,17 +3,16 @@
 
 mod choice;
 
-ghost use Rattle.std.specs.Prelude.{◌≡◌, true, ◌<◌, length, get_or};
+ghost use Rattle.std.specs.Prelude.{◌≡◌, Bool, true, false, length};
 ghost use Rattle.ieee.specs.Patterns.{floats, patterns};
-ghost use Rattle.std.specs.Float.{binary64};
-ghost use Rattle.std.specs.Float.Ieee.{of_bits};
-ghost use Rattle.std.specs.Float.Ieee.Scale.{finite};
 ghost use Rattle.times.specs.Milli.{time_limit, Within};
 ghost use Rattle.times.specs.Leading.{leading};
-ghost use Rattle.series.specs.Rows.{time_inside, finite_bits};
-ghost use Rattle.steps.specs.Steps.{begun, corrected, counter_after, counter_after_once, grown, lifted, resets, resets_once, deltas, sloped, derivs, whole_seconds, intervals};
+ghost use Rattle.series.specs.Rows.{time_inside};
+ghost use Rattle.steps.specs.Steps.{begun, compared, corrected, counted, counter_after, counter_after_once, grown, lifted, next, outputs_from, resets, resets_once, deltas, sloped, derivs, whole_seconds, intervals};
 
 pub use choice::step_of;
+
+use series::FiniteValues;
 
 // What is done to a series' values before they are rolled up.
 #[derive(Clone, Copy)]
@@ -40,14 +39,6 @@ pub struct Slope {
     pub deriv: f64,
     pub value: f64,
     pub ts: i64,
-}
-
-// A value of an accepted series, which is no NaN.
-fn read(values: &[u64], i: usize) -> f64
-    requires { (leading finite_bits values.now ≡ length values.now) × (i < length values.now) }
-    ensures { (result ≡ of_bits binary64 (get_or values.now i 0)) × (finite result ≡ true) }
-{
-    ieee::number_of(values[i])
 }
 
 // The correction c once the raw value v is compared with p.
@@ -122,43 +113,79 @@ impl Counter {
     }
 }
 
-// Each value with the counter's resets added back.
-pub fn remove_counter_resets(values: &[u64], prepared: &mut [u64])
-    requires { (length prepared.old ≡ length values.now) × (leading finite_bits values.now ≡ length values.now) }
-    ensures { prepared.new ≡ patterns (resets (floats values.now)) }
+// A counter step: what of its state it compares the next value with.
+trait CounterStep {
+    // Whether that is the output before, and not the raw value before.
+    ghost again: { Bool };
+
+    // The state after the raw value v.
+    fn next(counter: Counter, v: f64) -> Counter
+        ensures { result ≡ counted (compared again counter) counter v };
+}
+
+// After a restart each value that is still below the output before it is corrected again.
+struct CorrectedAgain;
+
+impl CounterStep for CorrectedAgain {
+    ghost again = { true };
+
+    fn next(counter: Counter, v: f64) -> Counter {
+        counter.next(v)
+    }
+}
+
+// A restart is corrected once.
+struct CorrectedOnce;
+
+impl CounterStep for CorrectedOnce {
+    ghost again = { false };
+
+    fn next(counter: Counter, v: f64) -> Counter {
+        counter.next_once(v)
+    }
+}
+
+// Each value's output under a counter step.
+fn correct<S: CounterStep>(values: &FiniteValues, prepared: &mut [u64])
+    requires { length prepared.old ≡ length values.now.slice.now }
+    ensures { prepared.new ≡ patterns (outputs_from (next S.again) begun (floats values.now.slice.now)) }
 {
     let mut counter = Counter::new();
-    for i in 0..values.len() {
-        counter = counter.next(read(values, i));
+    for i in 0..values.slice.len() {
+        counter = S::next(counter, values.number_at(i));
         prepared[i] = ieee::number_bits(counter.output);
     }
+}
+
+// Each value with the counter's resets added back.
+pub fn remove_counter_resets(values: &FiniteValues, prepared: &mut [u64])
+    requires { length prepared.old ≡ length values.now.slice.now }
+    ensures { prepared.new ≡ patterns (resets (floats values.now.slice.now)) }
+{
+    correct::<CorrectedAgain>(values, prepared);
 }
 
 // Each value with the counter's resets added back, each restart once.
-pub fn remove_counter_resets_once(values: &[u64], prepared: &mut [u64])
-    requires { (length prepared.old ≡ length values.now) × (leading finite_bits values.now ≡ length values.now) }
-    ensures { prepared.new ≡ patterns (resets_once (floats values.now)) }
+pub fn remove_counter_resets_once(values: &FiniteValues, prepared: &mut [u64])
+    requires { length prepared.old ≡ length values.now.slice.now }
+    ensures { prepared.new ≡ patterns (resets_once (floats values.now.slice.now)) }
 {
-    let mut counter = Counter::new();
-    for i in 0..values.len() {
-        counter = counter.next_once(read(values, i));
-        prepared[i] = ieee::number_bits(counter.output);
-    }
+    correct::<CorrectedOnce>(values, prepared);
 }
 
 // Each value's step to the next; the last step twice.
-pub fn delta_values(values: &[u64], prepared: &mut [u64])
-    requires { (length prepared.old ≡ length values.now) × (leading finite_bits values.now ≡ length values.now) }
-    ensures { prepared.new ≡ patterns (deltas (floats values.now)) }
+pub fn delta_values(values: &FiniteValues, prepared: &mut [u64])
+    requires { length prepared.old ≡ length values.now.slice.now }
+    ensures { prepared.new ≡ patterns (deltas (floats values.now.slice.now)) }
 {
-    if values.len() == 0 {
+    if values.slice.len() == 0 {
         return;
     }
     let mut prev_delta = 0.0;
-    let mut prev_value = read(values, 0);
-    let last = values.len() - 1;
+    let mut prev_value = values.number_at(0);
+    let last = values.slice.len() - 1;
     for j in 0..last {
-        let v = read(values, j + 1);
+        let v = values.number_at(j + 1);
         prev_delta = v - prev_value;
         prepared[j] = ieee::number_bits(prev_delta);
         prev_value = v;
@@ -185,21 +212,21 @@ impl Slope {
 }
 
 // Each value's slope to the next, per second; the last slope twice.
-pub fn deriv_values(values: &[u64], timestamps: &[i64], prepared: &mut [u64])
-    requires { (length timestamps.now ≡ length values.now) × (length prepared.old ≡ length values.now) × (leading time_inside timestamps.now ≡ length timestamps.now) × (leading finite_bits values.now ≡ length values.now) }
-    ensures { prepared.new ≡ patterns (derivs timestamps.now (floats values.now)) }
+pub fn deriv_values(values: &FiniteValues, timestamps: &[i64], prepared: &mut [u64])
+    requires { (length timestamps.now ≡ length values.now.slice.now) × (length prepared.old ≡ length values.now.slice.now) × (leading time_inside timestamps.now ≡ length timestamps.now) }
+    ensures { prepared.new ≡ patterns (derivs timestamps.now (floats values.now.slice.now)) }
 {
-    if values.len() == 0 {
+    if values.slice.len() == 0 {
         return;
     }
     let mut slope = Slope {
         deriv: 0.0,
-        value: read(values, 0),
+        value: values.number_at(0),
         ts: timestamps[0],
     };
-    let last = values.len() - 1;
+    let last = values.slice.len() - 1;
     for j in 0..last {
-        slope = slope.next(read(values, j + 1), timestamps[j + 1]);
+        slope = slope.next(values.number_at(j + 1), timestamps[j + 1]);
         prepared[j] = ieee::bits_of(slope.deriv);
     }
     prepared[last] = ieee::bits_of(slope.deriv);

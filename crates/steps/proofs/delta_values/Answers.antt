@@ -22,25 +22,25 @@ pub returns-then-values-eq0 : goal.returns-then-values-eq0
 unfolding floats deltas
 returns-then-values-eq0 c =
     let args = c.args in
-    rw (drop_of_length-le args.values.now {i = 0} (omega arith), drop_of_length-le args.prepared.now {i = 0} (omega arith))
+    rw (drop_of_length-le args.values.now.slice.now {i = 0} (omega arith), drop_of_length-le args.prepared.now {i = 0} (omega arith))
 
 pub loop-j-init : goal.loop-j-init
 unfolding floats deltas of_bits is_nan
 loop-j-init c =
-    (search rules, c.read-prev_value.ensures.1, refl, record { size = c.requires.0; parts = rw (c.read-prev_value.ensures.0, left_at c.args.values.now 0 0 (omega arith)) })
+    (search rules, c.number_at-prev_value.ensures.1, refl, record { size = c.requires; parts = rw (c.number_at-prev_value.ensures.0, left_at c.args.values.now.slice.now 0 0 (omega arith)) })
 
 pub number_bits-requires : goal.number_bits-requires
-number_bits-requires c = difference _ _ c.read-v.ensures.1 c.loop-j.invariant.1
+number_bits-requires c = difference _ _ c.number_at-v.ensures.1 c.loop-j.invariant.1
 
 pub loop-j-preserved : goal.loop-j-preserved
 unfolding floats deltas_from
 loop-j-preserved c =
-    let left = left_at c.args.values.now (c.loop-j.j + 1) 0 (omega arith) in
-    (search rules, c.read-v.ensures.1, difference _ _ c.read-v.ensures.1 c.loop-j.invariant.1, turn (omega arith) (rw (left, ← c.read-v.ensures.0) at c.loop-j.invariant.3) c.number_bits.ensures)
+    let left = left_at c.args.values.now.slice.now (c.loop-j.j + 1) 0 (omega arith) in
+    (search rules, c.number_at-v.ensures.1, difference _ _ c.number_at-v.ensures.1 c.loop-j.invariant.1, turn (omega arith) (rw (left, ← c.number_at-v.ensures.0) at c.loop-j.invariant.3) c.number_bits.ensures)
 
 pub returns : goal.returns
 unfolding floats deltas_from
 returns c =
-    let none = drop_of_length-le c.args.values.now {i = c.loop-j.j + 1} (omega arith) in
-    let end : length c.args.values.now - 1 ≡ c.loop-j.j = omega arith in
+    let none = drop_of_length-le c.args.values.now.slice.now {i = c.loop-j.j + 1} (omega arith) in
+    let end : length c.args.values.now.slice.now - 1 ≡ c.loop-j.j = omega arith in
     rw end (last (omega arith) (omega arith) (rw none at c.loop-j.invariant.3) c.number_bits-2.ensures)

@@ -38,7 +38,7 @@ loop-j-init c =
     let back = to_z-of_z (within-fits tt first) in (
       search rules,
       rw back first,
-      record { size = c.requires.1; parts = rw (back, c.read.ensures.0, left_at ts 0 (pos 0) (omega arith), left_at c.args.values.now 0 0 (omega arith)) },
+      record { size = c.requires.1; parts = rw (back, c.number_at.ensures.0, left_at ts 0 (pos 0) (omega arith), left_at c.args.values.now.slice.now 0 0 (omega arith)) },
     )
 
 pub next-slope-requires : goal.next-slope-requires
@@ -52,15 +52,15 @@ loop-j-preserved c =
     let ts = c.args.timestamps.now in
     let j = c.loop-j.j in
     let u = within_all ts c.requires.2 (j + 1) (omega arith) in
-    let taken = rw (to_z-of_z (within-fits tt u), c.read-in-loop-j.ensures.0) at c.next-slope.ensures in (
+    let taken = rw (to_z-of_z (within-fits tt u), c.number_at-in-loop-j.ensures.0) at c.next-slope.ensures in (
       search rules,
       rw taken (sloped-within _ _ _ c.loop-j.invariant.1 u),
-      turn (omega arith) (rw (left_at ts (j + 1) (pos 0) (omega arith), left_at c.args.values.now (j + 1) 0 (omega arith), ← taken) at c.loop-j.invariant.2) c.bits_of.ensures,
+      turn (omega arith) (rw (left_at ts (j + 1) (pos 0) (omega arith), left_at c.args.values.now.slice.now (j + 1) 0 (omega arith), ← taken) at c.loop-j.invariant.2) c.bits_of.ensures,
     )
 
 pub returns : goal.returns
 unfolding derivs_from
 returns c =
     let none = drop_of_length-le c.args.timestamps.now {i = c.loop-j.j + 1} (omega arith) in
-    let end : length c.args.values.now - 1 ≡ c.loop-j.j = omega arith in
+    let end : length c.args.values.now.slice.now - 1 ≡ c.loop-j.j = omega arith in
     rw end (last (omega arith) (omega arith) (rw none at c.loop-j.invariant.2) c.bits_of-2.ensures)

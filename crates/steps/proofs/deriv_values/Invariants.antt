@@ -8,4 +8,4 @@ use Rattle.steps.proofs.deriv_values.Given as goal
 
 abbrev pub invariant-loop-j : goal.invariant-loop-j
 invariant-loop-j l =
-    (l.j < length l.values) × Within time_limit l.slope.ts × Written (length l.values) l.j l.prepared (patterns (derivs_from l.slope (drop (l.j + 1) l.timestamps) (floats (drop (l.j + 1) l.values)))) (patterns (derivs l.timestamps (floats l.values)))
+    (l.j < length l.values.slice.now) × Within time_limit l.slope.ts × Written (length l.values.slice.now) l.j l.prepared (patterns (derivs_from l.slope (drop (l.j + 1) l.timestamps) (floats (drop (l.j + 1) l.values.slice.now)))) (patterns (derivs l.timestamps (floats l.values.slice.now)))

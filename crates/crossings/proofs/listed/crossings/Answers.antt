@@ -13,6 +13,7 @@ use lib.Seq.{length-take-le}
 use Rattle.std.proofs.lemmas.Result.{err_from_is_err_and}
 use Rattle.series.proofs.Accepted.{accepted-series}
 use Rattle.series.specs.Answers.{gives, outcome}
+use Rattle.series.specs.Series.{Series}
 use Rattle.crossings.specs.Crossings.{crossings_checked}
 use Rattle.crossings.proofs.listed.crossings.Goals as goal
 
@@ -33,12 +34,16 @@ unfolding crossings_checked
 returns-then-not-is_finite c = rw (← finite_is c.args.limit, ← c.is_finite.ensures.value, c.if-not-is_finite.true, ← c.check_series.ensures, c.in_ok-check_series.was)
 
 pub invariant_of-sides : goal.invariant_of-sides
-invariant_of-sides c = record { all_finite = (accepted-series _ _ (sym c.check_series.ensures ∙ c.in_ok-check_series.was)).all_finite }
+invariant_of-sides c =
+    let held : c.args.series.now.values ≡ c.series.inside.values.now = ap (λ (s : Series). s.values) (sym c.series.view_is) in
+    record { all_finite = rw held at (accepted-series _ _ (sym c.check_series.ensures ∙ c.in_ok-check_series.was)).all_finite }
 
 pub returns-then-indexes-n : goal.returns-then-indexes-n
 unfolding crossings_checked
 returns-then-indexes-n c =
-    rw (← c.count-n.ensures, lt-ltb _ _ c.if-indexes-n.true, ← finite_is c.args.limit, ← c.is_finite.ensures.value, c.if-not-is_finite.false, ← c.check_series.ensures, c.in_ok-check_series.was)
+    let held : c.series.inside.values.now ≡ c.args.series.now.values = ap (λ (s : Series). s.values) c.series.view_is in
+    let n = rw held at c.count-n.ensures in
+    rw (← n, lt-ltb _ _ c.if-indexes-n.true, ← finite_is c.args.limit, ← c.is_finite.ensures.value, c.if-not-is_finite.false, ← c.check_series.ensures, c.in_ok-check_series.was)
 
 pub list-requires : goal.list-requires
 list-requires c = length-take-le _ _ c.if-indexes-n.false ∙ c.count-n.ensures
@@ -46,5 +51,7 @@ list-requires c = length-take-le _ _ c.if-indexes-n.false ∙ c.count-n.ensures
 pub returns : goal.returns
 unfolding crossings_checked
 returns c =
-    rw (← c.count-n.ensures, le-ltb _ _ c.if-indexes-n.false, ← finite_is c.args.limit, ← c.is_finite.ensures.value, c.if-not-is_finite.false, ← c.check_series.ensures, c.in_ok-check_series.was)
-    (ap (λ (new : List ℕ). outcome (gives c.count-n.result) (new ++ drop c.count-n.result c.args.indexes.now)) c.list.ensures)
+    let held : c.series.inside.values.now ≡ c.args.series.now.values = ap (λ (s : Series). s.values) c.series.view_is in
+    let n = rw held at c.count-n.ensures in
+    rw (← n, le-ltb _ _ c.if-indexes-n.false, ← finite_is c.args.limit, ← c.is_finite.ensures.value, c.if-not-is_finite.false, ← c.check_series.ensures, c.in_ok-check_series.was)
+    (ap (λ (new : List ℕ). outcome (gives c.count-n.result) (new ++ drop c.count-n.result c.args.indexes.now)) (rw held at c.list.ensures))

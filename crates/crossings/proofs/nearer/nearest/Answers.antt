@@ -15,6 +15,12 @@ use Rattle.crossings.specs.Nearest.{asked_checked}
 use Rattle.crossings.proofs.Asked.{asked-accepted}
 use Rattle.crossings.proofs.nearer.nearest.Goals as goal
 
+pub invariant_of-times : goal.invariant_of-times
+invariant_of-times c =
+    let checked-is : c.check_asked.result ≡ asked_checked c.args.timestamps.now c.args.time = c.check_asked.ensures ∙ ap (asked_checked c.args.timestamps.now) (to_z-of_z c.ranges.time) in
+    let accepted = asked-accepted _ _ (sym checked-is ∙ c.in_ok-check_asked.was) in
+    record { not_falling = rising-not-falling (rising c.args.timestamps.now (accepted-times _ accepted.0).all_rise) }
+
 pub seek_nearest-requires : goal.seek_nearest-requires
 seek_nearest-requires c =
     let ts = c.args.timestamps.now in
@@ -26,4 +32,4 @@ seek_nearest-requires c =
     by-test (ltb 0 (length ts)) (λ e. ltb-true _ _ e)
     (λ e. absurd (eqb-false _ _ (sym c.is_empty.ensures ∙ c.if-is_empty.false) (omega (arith, ltb-false _ _ e)))) in
     let times = accepted-times ts accepted.0 in
-    (rising-not-falling (rising ts times.all_rise), times.all_inside, rw (to_z-of_z c.ranges.time) (inside-within t accepted.1), some)
+    (times.all_inside, rw (to_z-of_z c.ranges.time) (inside-within t accepted.1), some)

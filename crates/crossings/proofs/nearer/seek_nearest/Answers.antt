@@ -50,66 +50,66 @@ module _ (ts : List ℤ) where
 
 pub returns-then-after-eq0 : goal.returns-then-after-eq0
 returns-then-after-eq0 c =
-    let ts = c.args.timestamps.now in
+    let ts = c.args.times.now.slice.now in
     let t = c.args.time in
     let found-at = found ts t _ c.ranges.time c.seek_first_timestamp_idx_after-after.ensures in
-    nearest-only t ts 0 (first-nearest c.requires.0 t (sym found-at ∙ c.if-after-eq0.true) c.requires.3)
+    nearest-only t ts 0 (first-nearest c.args.times.now.not_falling t (sym found-at ∙ c.if-after-eq0.true) c.requires.2)
 
 pub offset_bounds-timestamps-after : goal.offset_bounds-timestamps-after
 offset_bounds-timestamps-after c =
-    let ts = c.args.timestamps.now in
+    let ts = c.args.times.now.slice.now in
     let t = c.args.time in
     let h = k-le ts t _ (found ts t _ c.ranges.time c.seek_first_timestamp_idx_after-after.ensures) in
     search rules
 
 pub bounds-timestamps-after : goal.bounds-timestamps-after
 bounds-timestamps-after c =
-    let ts = c.args.timestamps.now in
+    let ts = c.args.times.now.slice.now in
     let t = c.args.time in
     omega (arith, k-le ts t _ (found ts t _ c.ranges.time c.seek_first_timestamp_idx_after-after.ensures), c.if-after-eq0.false)
 
 pub is_later_nearer-requires : goal.is_later_nearer-requires
 is_later_nearer-requires c =
-    let ts = c.args.timestamps.now in
+    let ts = c.args.times.now.slice.now in
     let t = c.args.time in
     let k = c.seek_first_timestamp_idx_after-after.result in
-    let inside = c.requires.1 in
+    let inside = c.requires.0 in
     let found-at : k ≡ first_after ts t = found ts t k c.ranges.time c.seek_first_timestamp_idx_after-after.ensures in
     let some = c.if-after-eq0.false in
     let last : k - 1 < length ts = omega (arith, k-le ts t k found-at, some) in
     let next : k < length ts = c.if-after-timestamps.true in
     rw (to_z-of_z c.ranges.time, to_z-of_z (held ts inside (k - 1) last), to_z-of_z (held ts inside k next))
-    (c.requires.2, within_all ts inside (k - 1) last, within_all ts inside k next, first_below ts t (k - 1) (omega (arith, found-at, some)), after c.requires.0 t k (omega (arith, found-at)) next)
+    (c.requires.1, within_all ts inside (k - 1) last, within_all ts inside k next, first_below ts t (k - 1) (omega (arith, found-at, some)), after c.args.times.now.not_falling t k (omega (arith, found-at)) next)
 
 pub returns-then-is_later_nearer : goal.returns-then-is_later_nearer
 returns-then-is_later_nearer c =
-    let ts = c.args.timestamps.now in
+    let ts = c.args.times.now.slice.now in
     let t = c.args.time in
     let k = c.seek_first_timestamp_idx_after-after.result in
-    let inside = c.requires.1 in
+    let inside = c.requires.0 in
     let found-at : k ≡ first_after ts t = found ts t k c.ranges.time c.seek_first_timestamp_idx_after-after.ensures in
     let next : k < length ts = c.if-after-timestamps.true in
     let last : k - 1 < length ts = omega (arith, next) in
     let read : c.is_later_nearer.result ≡ test ts t k = rw (to_z-of_z c.ranges.time, to_z-of_z (held ts inside (k - 1) last), to_z-of_z (held ts inside k next)) at c.is_later_nearer.ensures in
     found-at
     ∙ nearest-only t ts (first_after ts t)
-    (next-nearest c.requires.0 t (omega (arith, found-at, c.if-after-eq0.false)) (omega (arith, found-at, next)) (ltb-true _ _ (sym (read ∙ ap (test ts t) found-at) ∙ c.if-is_later_nearer.true)))
+    (next-nearest c.args.times.now.not_falling t (omega (arith, found-at, c.if-after-eq0.false)) (omega (arith, found-at, next)) (ltb-true _ _ (sym (read ∙ ap (test ts t) found-at) ∙ c.if-is_later_nearer.true)))
 
 pub overflow_sub-before-2 : goal.overflow_sub-before-2
 overflow_sub-before-2 c =
-    let ts = c.args.timestamps.now in
+    let ts = c.args.times.now.slice.now in
     let t = c.args.time in
     let k = c.seek_first_timestamp_idx_after-after.result in
-    let inside = c.requires.1 in
+    let inside = c.requires.0 in
     let last : k - 1 < length ts = omega (arith, k-le ts t k (found ts t k c.ranges.time c.seek_first_timestamp_idx_after-after.ensures), c.if-after-eq0.false) in
     rw (to_z-of_z (held ts inside (k - 1) last)) (held_less ts inside (k - 1) last)
 
 pub returns : goal.returns
 returns c =
-    let ts = c.args.timestamps.now in
+    let ts = c.args.times.now.slice.now in
     let t = c.args.time in
     let k = c.seek_first_timestamp_idx_after-after.result in
-    let inside = c.requires.1 in
+    let inside = c.requires.0 in
     let found-at : k ≡ first_after ts t = found ts t k c.ranges.time c.seek_first_timestamp_idx_after-after.ensures in
     let some = c.if-after-eq0.false in
     let last : k - 1 < length ts = omega (arith, k-le ts t k found-at, some) in
@@ -124,4 +124,4 @@ returns c =
     let before = ap (λ (i : ℕ). first_after ts (get_or ts (i - 1) (pos 0) -ℤ pos 1)) found-at in
     let seen : c.seek_first_timestamp_idx_after.result ≡ first_after ts (get_or ts (k - 1) (pos 0) -ℤ pos 1) =
     rw (to_z-of_z (held ts inside (k - 1) last), to_z-of_z (held_less ts inside (k - 1) last)) at c.seek_first_timestamp_idx_after.ensures in
-    seen ∙ before ∙ nearest-only t ts _ (last-nearest c.requires.0 t (omega (arith, found-at, some)) (rw found-at at not-nearer))
+    seen ∙ before ∙ nearest-only t ts _ (last-nearest c.args.times.now.not_falling t (omega (arith, found-at, some)) (rw found-at at not-nearer))

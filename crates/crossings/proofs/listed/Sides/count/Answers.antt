@@ -10,12 +10,12 @@ use Rattle.crossings.proofs.listed.Sides.count.Goals as goal
 use Rattle.crossings.proofs.listed.Sides.count.Goals.{then-is_crossing, else-is_crossing}
 
 pub loop-i-init : goal.loop-i-init
-loop-i-init c = (omega arith, omega (arith, ap length (all_left c.args.self.now.limit c.args.self.now.values.now)))
+loop-i-init c = (omega arith, omega (arith, ap length (all_left c.args.self.now.limit c.args.self.now.values.slice.now)))
 
 pub loop-i-preserved : goal.loop-i-preserved
 loop-i-preserved c =
     let limit = c.args.self.now.limit in
-    let vs = c.args.self.now.values.now in
+    let vs = c.args.self.now.values.slice.now in
     let i = c.loop-i.i in
     let inv = c.loop-i.invariant in
     let within : i < length vs = c.loop-i-test.true in
@@ -31,5 +31,5 @@ loop-i-preserved c =
 pub returns : goal.returns
 returns c =
     let loop = c.loop-i in
-    let counted = rw (left-none c.args.self.now.limit c.args.self.now.values.now loop.i (omega arith)) at loop.invariant.1 in
+    let counted = rw (left-none c.args.self.now.limit c.args.self.now.values.slice.now loop.i (omega arith)) at loop.invariant.1 in
     omega arith

@@ -16,19 +16,19 @@ none_left (x ∷ l) e = absurd (omega arith)
 
 pub loop-i-init : goal.loop-i-init
 loop-i-init c =
-    let whole = all_left c.args.self.now.limit c.args.self.now.values.now in
+    let whole = all_left c.args.self.now.limit c.args.self.now.values.slice.now in
     (omega (arith, c.requires, ap length whole), record { size = refl; parts = sym whole })
 
 pub returns-then-k-indexes : goal.returns-then-k-indexes
 returns-then-k-indexes c =
     let inv = c.loop-i.invariant in
     let all : length c.args.indexes.now ≤ c.loop-i.k = omega (arith, c.if-k-indexes.true, inv.1.size) in
-    done all (rw (none_left (left c.args.self.now.limit c.args.self.now.values.now c.loop-i.i) (omega (arith, all, inv.0))) at inv.1)
+    done all (rw (none_left (left c.args.self.now.limit c.args.self.now.values.slice.now c.loop-i.i) (omega (arith, all, inv.0))) at inv.1)
 
 pub loop-i-preserved : goal.loop-i-preserved
 loop-i-preserved c =
     let limit = c.args.self.now.limit in
-    let vs = c.args.self.now.values.now in
+    let vs = c.args.self.now.values.slice.now in
     let i = c.loop-i.i in
     let inv = c.loop-i.invariant in
     let within : i < length vs = c.loop-i-test.true in
@@ -45,5 +45,5 @@ loop-i-preserved c =
 pub returns : goal.returns
 returns c =
     let inv = c.loop-i.invariant in
-    let none = left-none c.args.self.now.limit c.args.self.now.values.now c.loop-i.i (omega arith) in
+    let none = left-none c.args.self.now.limit c.args.self.now.values.slice.now c.loop-i.i (omega arith) in
     done (omega (arith, inv.0, ap length none)) (rw none at inv.1)
