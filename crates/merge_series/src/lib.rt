@@ -3,8 +3,7 @@
 
 mod call;
 mod joined;
-mod slices;
+mod place;
 mod written;
 
 pub use call::merge;
-pub use slices::Series;
