@@ -8,7 +8,7 @@ ghost use Rattle.run.specs.Run.{lent, run_of, settled_run_of};
 
 use config::settle::settle_settings;
 use rollup::handler::RollupHandler;
-use series::{Refusal, check_series};
+use series::{AcceptedSeries, Refusal, Series, check_series};
 use settings::course::{Course, settled_course};
 use settings::{RollupConfig, SettledConfig, check_settled};
 use steps::PreFunction;
@@ -20,8 +20,7 @@ mod execute;
 
 // The number of samples counted, and the figures over the grid of rc, with the window and the reach that the series and rc settle to.
 pub fn run(
-    timestamps: &[i64],
-    values: &[u64],
+    series: &Series,
     pre: PreFunction,
     handler: RollupHandler,
     rc: RollupConfig,
@@ -29,10 +28,14 @@ pub fn run(
     prepared: &mut [u64],
     work: &mut [f64],
 ) -> Result<u64, Refusal>
-    ensures { outcome (reply result) (lent dst_values.new prepared.new work.new) ≡ run_of timestamps.now values.now pre handler rc (lent dst_values.old prepared.old work.old) }
+    ensures { outcome (reply result) (lent dst_values.new prepared.new work.new) ≡ run_of series.now.times series.now.values pre handler rc (lent dst_values.old prepared.old work.old) }
 {
-    check_series(timestamps, values)?;
-    let settled = settle_settings(timestamps, rc)?;
+    check_series(series)?;
+    let accepted = AcceptedSeries {
+        timestamps: series.timestamps,
+        values: series.values,
+    };
+    let settled = settle_settings(accepted.timestamps, rc)?;
     let course = Course {
         start: rc.start,
         step: rc.step,
@@ -42,14 +45,13 @@ pub fn run(
         samples_scanned_per_call: rc.samples_scanned_per_call,
     };
     execute::execute_within(
-        timestamps, values, pre, handler, course, dst_values, prepared, work,
+        &accepted, pre, handler, course, dst_values, prepared, work,
     )
 }
 
 // The number of samples counted, and the figures over the grid of sc, with the window and the reach that it is given.
 pub fn settled_run(
-    timestamps: &[i64],
-    values: &[u64],
+    series: &Series,
     pre: PreFunction,
     handler: RollupHandler,
     sc: SettledConfig,
@@ -57,13 +59,16 @@ pub fn settled_run(
     prepared: &mut [u64],
     work: &mut [f64],
 ) -> Result<u64, Refusal>
-    ensures { outcome (reply result) (lent dst_values.new prepared.new work.new) ≡ settled_run_of timestamps.now values.now pre handler sc (lent dst_values.old prepared.old work.old) }
+    ensures { outcome (reply result) (lent dst_values.new prepared.new work.new) ≡ settled_run_of series.now.times series.now.values pre handler sc (lent dst_values.old prepared.old work.old) }
 {
-    check_series(timestamps, values)?;
+    check_series(series)?;
+    let accepted = AcceptedSeries {
+        timestamps: series.timestamps,
+        values: series.values,
+    };
     check_settled(sc)?;
     execute::execute_within(
-        timestamps,
-        values,
+        &accepted,
         pre,
         handler,
         settled_course(sc),

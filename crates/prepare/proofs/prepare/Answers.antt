@@ -1,7 +1,7 @@
 -- `prepare::prepare` meets its contract. A refusal is the first row that refuses, and nothing is written; else the step writes the leading part, and the rest is as it was.
 -- Assumes nothing.
 use Prim.Native.Nat.{ℕ}
-use mathlib.Core.Path.{ap}
+use mathlib.Core.Path.{sym, ap, ◌∙◌}
 use mathlib.Core.List.{List, ◌++◌}
 use borrow.Author.Tests.{lt-ltb, le-ltb}
 use lib.ListN.{length, drop}
@@ -16,14 +16,20 @@ returns-in_err-check_series c =
     let p = err_from_is_err_and c.from_residual.result c.from_residual.ensures.1 in
     rw (p.1, p.2, ← c.check_series.ensures, c.in_err-check_series.was)
 
+pub invariant_of-accepted : goal.invariant_of-accepted
+invariant_of-accepted c = record { accepted = rw (← c.series.view_is) at (sym c.check_series.ensures ∙ c.in_ok-check_series.was) }
+
 pub returns-then-prepared-n : goal.returns-then-prepared-n
 unfolding prepare_checked
-returns-then-prepared-n c = rw (lt-ltb _ _ c.if-prepared-n.true, ← c.check_series.ensures, c.in_ok-check_series.was)
+returns-then-prepared-n c =
+    let checked = rw (← c.series.view_is) at c.check_series.ensures in
+    rw (← c.series.view_is, lt-ltb _ _ c.if-prepared-n.true, ← checked, c.in_ok-check_series.was)
 
 pub returns : goal.returns
 unfolding prepare_checked
 returns c =
     let old = c.args.prepared.now in
-    let vs = c.args.values.now in
-    rw (le-ltb _ _ c.if-prepared-n.false, ← c.check_series.ensures, c.in_ok-check_series.was)
+    let vs = c.series.inside.values.now in
+    let checked = rw (← c.series.view_is) at c.check_series.ensures in
+    rw (← c.series.view_is, le-ltb _ _ c.if-prepared-n.false, ← checked, c.in_ok-check_series.was)
     (ap (λ (new : List ℕ). outcome (gives tt) (new ++ drop (length vs) old)) c.apply.ensures)

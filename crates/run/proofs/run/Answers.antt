@@ -46,18 +46,21 @@ returns-in_err-check_series c =
     let p = err_from_is_err_and c.from_residual.result c.from_residual.ensures.1 in
     rw (p.1, p.2, ← c.check_series.ensures, c.in_err-check_series.was)
 
+pub invariant_of-accepted : goal.invariant_of-accepted
+invariant_of-accepted c = record { accepted = rw (← c.series.view_is) at (sym c.check_series.ensures ∙ c.in_ok-check_series.was) }
+
 pub settle_settings-requires : goal.settle_settings-requires
-settle_settings-requires c = times-ok _ _ (sym c.check_series.ensures ∙ c.in_ok-check_series.was)
+settle_settings-requires c = times-ok _ _ (sym (rw (← c.series.view_is) at c.check_series.ensures) ∙ c.in_ok-check_series.was)
 
 pub returns-in_err-settled : goal.returns-in_err-settled
 unfolding run_checked
 returns-in_err-settled c =
     let x = c.in_err-settled.field-0.0 in
-    let ts = c.args.timestamps.now in
-    let vs = c.args.values.now in
+    let ts = c.series.inside.timestamps.now in
+    let vs = c.series.inside.values.now in
     let rc = c.args.rc in
     let l = lent c.args.dst_values.now c.args.prepared.now c.args.work.now in
-    let series-ok : series_checked ts vs ≡ Ok tt = sym c.check_series.ensures ∙ c.in_ok-check_series.was in
+    let series-ok : series_checked ts vs ≡ Ok tt = sym (rw (← c.series.view_is) at c.check_series.ensures) ∙ c.in_ok-check_series.was in
     let said : refuses x ≡ reply_of (settings_checked rc) (settlement ts rc) = rw c.in_err-settled.was at c.settle_settings.ensures in
     let p = err_from_is_err_and c.from_residual-in_err-settled.result c.from_residual-in_err-settled.ensures.1 in
     rw (p.1, p.2, series-ok)
@@ -66,20 +69,20 @@ returns-in_err-settled c =
 
 pub execute_within-requires-clause-allowed : goal.execute_within-requires-clause-allowed
 execute_within-requires-clause-allowed c =
-    let us = c.args.timestamps.now in
+    let us = c.series.inside.timestamps.now in
     let rc = c.args.rc in
-    let times = times-ok us c.args.values.now (sym c.check_series.ensures ∙ c.in_ok-check_series.was) in
+    let times = times-ok us c.series.inside.values.now (sym (rw (← c.series.view_is) at c.check_series.ensures) ∙ c.in_ok-check_series.was) in
     let s = settling-accepted (settings_checked rc) (settlement us rc) c.in_ok-settled.settled (rw c.in_ok-settled.was at c.settle_settings.ensures) in
     rw (course-is us rc times s.0 c.in_ok-settled.settled s.1) (allowed us rc times s.0)
 
 pub returns : goal.returns
 unfolding run_checked
 returns c =
-    let us = c.args.timestamps.now in
-    let vs = c.args.values.now in
+    let us = c.series.inside.timestamps.now in
+    let vs = c.series.inside.values.now in
     let rc = c.args.rc in
     let l = lent c.args.dst_values.now c.args.prepared.now c.args.work.now in
-    let series-ok : series_checked us vs ≡ Ok tt = sym c.check_series.ensures ∙ c.in_ok-check_series.was in
+    let series-ok : series_checked us vs ≡ Ok tt = sym (rw (← c.series.view_is) at c.check_series.ensures) ∙ c.in_ok-check_series.was in
     let times = times-ok us vs series-ok in
     let s = settling-accepted (settings_checked rc) (settlement us rc) c.in_ok-settled.settled (rw c.in_ok-settled.was at c.settle_settings.ensures) in
     rw (series-ok, s.0, last_row (lent_checked (length vs) (run_course us rc).points l))

@@ -17,6 +17,9 @@ returns-in_err-check_series c =
     let p = err_from_is_err_and c.from_residual.result c.from_residual.ensures.1 in
     rw (p.1, p.2, ← c.check_series.ensures, c.in_err-check_series.was)
 
+pub invariant_of-accepted : goal.invariant_of-accepted
+invariant_of-accepted c = record { accepted = rw (← c.series.view_is) at (sym c.check_series.ensures ∙ c.in_ok-check_series.was) }
+
 pub returns-in_err-check_settled : goal.returns-in_err-check_settled
 unfolding settled_checked
 returns-in_err-check_settled c =
@@ -30,8 +33,8 @@ execute_within-requires-clause-allowed c =
 pub returns : goal.returns
 unfolding settled_checked
 returns c =
-    let series-ok : series_checked c.args.timestamps.now c.args.values.now ≡ Ok tt = sym c.check_series.ensures ∙ c.in_ok-check_series.was in
+    let series-ok : series_checked c.series.inside.timestamps.now c.series.inside.values.now ≡ Ok tt = sym (rw (← c.series.view_is) at c.check_series.ensures) ∙ c.in_ok-check_series.was in
     let settings-ok : settled_settings c.args.sc ≡ Ok tt = sym c.check_settled.ensures ∙ c.in_ok-check_settled.was in
     let l = lent c.args.dst_values.now c.args.prepared.now c.args.work.now in
-    rw (series-ok, settings-ok, last_row (lent_checked (length c.args.values.now) (settled_course c.args.sc).points l))
+    rw (series-ok, settings-ok, last_row (lent_checked (length c.series.inside.values.now) (settled_course c.args.sc).points l))
     (rw c.settled_course.ensures at c.execute_within.ensures)
