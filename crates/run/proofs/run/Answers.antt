@@ -63,12 +63,12 @@ returns-in_err-settled c =
     let series-ok : series_checked ts vs ≡ Ok tt = sym (rw (← c.series.view_is) at c.check_series.ensures) ∙ c.in_ok-check_series.was in
     let said : refuses x ≡ reply_of (settings_checked rc) (settlement ts rc) = rw c.in_err-settled.was at c.settle_settings.ensures in
     let p = err_from_is_err_and c.from_residual-in_err-settled.result c.from_residual-in_err-settled.ensures.1 in
-    rw (p.1, p.2, series-ok)
+    rw (p.1, p.2, ← c.series.view_is, series-ok)
     (settling_refused (settings_checked rc) (settlement ts rc) x (lent_checked (length vs) (grid_size rc.start rc.end rc.step) l ∷ [])
     (run_plan ts vs c.args.pre c.args.handler rc) l said)
 
-pub execute_within-requires-clause-allowed : goal.execute_within-requires-clause-allowed
-execute_within-requires-clause-allowed c =
+pub execute_within-requires : goal.execute_within-requires
+execute_within-requires c =
     let us = c.series.inside.timestamps.now in
     let rc = c.args.rc in
     let times = times-ok us c.series.inside.values.now (sym (rw (← c.series.view_is) at c.check_series.ensures) ∙ c.in_ok-check_series.was) in
@@ -85,5 +85,5 @@ returns c =
     let series-ok : series_checked us vs ≡ Ok tt = sym (rw (← c.series.view_is) at c.check_series.ensures) ∙ c.in_ok-check_series.was in
     let times = times-ok us vs series-ok in
     let s = settling-accepted (settings_checked rc) (settlement us rc) c.in_ok-settled.settled (rw c.in_ok-settled.was at c.settle_settings.ensures) in
-    rw (series-ok, s.0, last_row (lent_checked (length vs) (run_course us rc).points l))
+    rw (← c.series.view_is, series-ok, s.0, last_row (lent_checked (length vs) (run_course us rc).points l))
     (c.execute_within.ensures ∙ ap (λ (go : Course). executed us vs c.args.pre c.args.handler go l) (course-is us rc times s.0 c.in_ok-settled.settled s.1))

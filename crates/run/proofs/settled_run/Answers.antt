@@ -26,8 +26,8 @@ returns-in_err-check_settled c =
     let p = err_from_is_err_and c.from_residual-in_err-check_settled.result c.from_residual-in_err-check_settled.ensures.1 in
     rw (p.1, p.2, ← c.check_series.ensures, c.in_ok-check_series.was, ← c.check_settled.ensures, c.in_err-check_settled.was)
 
-pub execute_within-requires-clause-allowed : goal.execute_within-requires-clause-allowed
-execute_within-requires-clause-allowed c =
+pub execute_within-requires : goal.execute_within-requires
+execute_within-requires c =
     rw c.settled_course.ensures (goes_by (settled-sound c.args.sc (sym c.check_settled.ensures ∙ c.in_ok-check_settled.was)))
 
 pub returns : goal.returns
@@ -36,5 +36,5 @@ returns c =
     let series-ok : series_checked c.series.inside.timestamps.now c.series.inside.values.now ≡ Ok tt = sym (rw (← c.series.view_is) at c.check_series.ensures) ∙ c.in_ok-check_series.was in
     let settings-ok : settled_settings c.args.sc ≡ Ok tt = sym c.check_settled.ensures ∙ c.in_ok-check_settled.was in
     let l = lent c.args.dst_values.now c.args.prepared.now c.args.work.now in
-    rw (series-ok, settings-ok, last_row (lent_checked (length c.series.inside.values.now) (settled_course c.args.sc).points l))
+    rw (← c.series.view_is, series-ok, settings-ok, last_row (lent_checked (length c.series.inside.values.now) (settled_course c.args.sc).points l))
     (rw c.settled_course.ensures at c.execute_within.ensures)
