@@ -6,7 +6,7 @@ ghost use Rattle.merge_series.specs.Merge.{series};
 ghost use Rattle.harzoulin.specs.Exported.{crossed, exported};
 
 use crate::answered;
-use merge_series::Series;
+use series::Series;
 
 pub fn harzoulin_merge(
     first_timestamps: &[i64],

@@ -6,7 +6,7 @@ ghost use Rattle.harzoulin.specs.Exported.{crossed, exported};
 ghost use Rattle.harzoulin.specs.Prepare.{numbered_prepare};
 
 use crate::refuse;
-use series::Refusal;
+use series::{Refusal, Series};
 
 pub fn harzoulin_prepare(
     timestamps: &[i64],
@@ -20,7 +20,8 @@ pub fn harzoulin_prepare(
     let Some(known) = steps::step_of(pre) else {
         return refuse(Refusal::UnknownNumber, index);
     };
-    if let Err(r) = prepare::prepare(timestamps, values, known, prepared) {
+    let series = Series { timestamps, values };
+    if let Err(r) = prepare::prepare(&series, known, prepared) {
         return refuse(r, index);
     }
     *index = 0;

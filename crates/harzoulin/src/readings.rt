@@ -7,6 +7,7 @@ ghost use Rattle.harzoulin.specs.Exported.{crossed, exported};
 ghost use Rattle.harzoulin.specs.Readings.{nearest_outcome, placed};
 
 use crate::{answered, refuse};
+use series::Series;
 
 pub fn harzoulin_crossings(
     timestamps: &[i64],
@@ -18,7 +19,8 @@ pub fn harzoulin_crossings(
 ) -> u64
     ensures { exported result index.new count.new indexes.new ≡ crossed (crossings_of timestamps.now values.now limit indexes.old) count.old }
 {
-    let listed = crossings::crossings(timestamps, values, limit, indexes);
+    let series = Series { timestamps, values };
+    let listed = crossings::crossings(&series, limit, indexes);
     answered(listed, count, index)
 }
 

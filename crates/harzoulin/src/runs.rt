@@ -11,7 +11,7 @@ ghost use Rattle.harzoulin.specs.Settle.{config_of};
 
 use crate::{answered, refuse};
 use rollup::handler::RollupHandler;
-use series::Refusal;
+use series::{Refusal, Series};
 use settings::{RollupConfig, SettledConfig};
 use steps::PreFunction;
 
@@ -64,8 +64,9 @@ pub fn harzoulin_run(
         max_points_per_series,
         samples_scanned_per_call,
     };
+    let series = Series { timestamps, values };
     let figures = run::run(
-        timestamps, values, named, handler, rc, dst_values, prepared, work,
+        &series, named, handler, rc, dst_values, prepared, work,
     );
     answered(figures, count, index)
 }
@@ -102,8 +103,9 @@ pub fn harzoulin_settled_run(
         reach,
         samples_scanned_per_call,
     };
+    let series = Series { timestamps, values };
     let figures = run::settled_run(
-        timestamps, values, named, handler, sc, dst_values, prepared, work,
+        &series, named, handler, sc, dst_values, prepared, work,
     );
     answered(figures, count, index)
 }

@@ -2,6 +2,7 @@
 // their values, and the values as the Rust prepared them, or the model where the Rust does not have the step.
 #![tactic(auto)]
 
+use series::Series;
 use std::io;
 use vectors::{Cursor, Unread};
 
@@ -16,7 +17,11 @@ fn case(words: &mut Cursor) -> Result<bool, Unread> {
     let values = words.words(n)?;
     let stored = words.words(n)?;
     let mut prepared = vectors::others(&stored, words.alloc)?;
-    let answer = prepare::prepare(&timestamps, &values, pre, &mut prepared);
+    let series = Series {
+        timestamps: &timestamps,
+        values: &values,
+    };
+    let answer = prepare::prepare(&series, pre, &mut prepared);
     Ok(answer.is_ok() && prepared == stored)
 }
 

@@ -7,7 +7,7 @@
 
 use config::settle::Settlement;
 use rollup::handler::RollupHandler;
-use series::Refusal;
+use series::{Refusal, Series};
 use settings::{RollupConfig, SettledConfig};
 use std::io;
 use steps::PreFunction;
@@ -119,10 +119,13 @@ impl Stored {
         let mut answers = vectors::others(stored, alloc)?;
         let mut prepared = vectors::others(&self.values, alloc)?;
         let mut work = [1.0; 128];
+        let series = Series {
+            timestamps: &self.timestamps,
+            values: &self.values,
+        };
         let figures = match call {
             Call::Run(rc) => run::run(
-                &self.timestamps,
-                &self.values,
+                &series,
                 pre,
                 handler,
                 rc,
@@ -131,8 +134,7 @@ impl Stored {
                 &mut work,
             ),
             Call::Settled(sc) => run::settled_run(
-                &self.timestamps,
-                &self.values,
+                &series,
                 pre,
                 handler,
                 sc,

@@ -9,6 +9,7 @@ ghost use Rattle.times.specs.Grid.{OnGrid};
 use series::Refusal;
 use settings::RollupConfig;
 use std::io;
+use times::search::Times;
 use vectors::{Cursor, Unread};
 
 // How many times of a grid the list holds; of more it holds the first and the last.
@@ -42,7 +43,8 @@ impl TryFrom<u64> for Question {
 // The index that the search gives, of times that the table accepts.
 fn index_after(timestamps: &[i64], t: i64, hint: usize) -> Result<usize, Refusal> {
     series::check_times(timestamps)?;
-    Ok(times::search::seek_first_timestamp_idx_after(timestamps, t, hint))
+    let times = Times { slice: timestamps };
+    Ok(times.seek_first_timestamp_idx_after(t, hint))
 }
 
 // A search: the number of times, the times, the time and the hint; then the index.

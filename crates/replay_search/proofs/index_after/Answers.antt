@@ -4,5 +4,5 @@ use mathlib.Core.Path.{sym}
 use Rattle.config.proofs.Distances.{not-falling}
 use Rattle.replay_search.proofs.index_after.Goals as goal
 
-pub seek_first_timestamp_idx_after-requires : goal.seek_first_timestamp_idx_after-requires
-seek_first_timestamp_idx_after-requires c = not-falling _ (sym c.in_ok-check_times.ensures)
+pub invariant_of-times : goal.invariant_of-times
+invariant_of-times c = record { not_falling = not-falling _ (sym c.in_ok-check_times.ensures) }
