@@ -1,8 +1,8 @@
 -- The whole part of a rank among n values is an index of them: for phi from 0 to 1 and n up to 2 ^ 53, phi × (n − 1) rounds to at most n − 1, which is exact.
 -- Assumes nothing.
 use mathlib.Core.Path.{◌≡◌, refl, sym, ap, ◌∙◌}
-use mathlib.Core.Logic.{◌⊎◌, inl, inr, ⊎_elim}
-use mathlib.Core.Bool.{Bool, true, false, ◌||◌, true≢false}
+use mathlib.Core.Logic.{⊎_elim}
+use mathlib.Core.Bool.{true, false, true≢false}
 use Prim.Native.Nat.{ℕ, zero, suc, ◌+◌, ◌-◌, ◌*◌, ◌/◌, ◌%◌, ◌^◌, ◌≤◌, ◌<◌}
 use native.Mathlib.Nat.{mul-one, one-mul, zero-mul, mul_assoc, mul_comm, mul_left_comm, mul-pos, mul-le-mul_right, le_of_mul-le-mul_right, div-one, le_of_eq, le_of_lt, le_trans}
 use native.Mathlib.Omega.{arith}
@@ -16,14 +16,11 @@ use lib.Ieee.Nearest.{div_mono}
 use lib.Ieee.Order.{round_mono}
 use lib.Ieee.Scale.{finite, grid, round_same, round_val, round_under}
 use lib.Ieee.Back.{unsigned_back}
+use mir.Facts.{or_yes}
 use Rattle.ieee.specs.Value.{floor_of, whole_below}
 use Rattle.ieee.proofs.Exact.{count-exact}
 use Rattle.quantile.specs.Quantile.{rank_of}
 use Rattle.ieee.proofs.Tests.{by-test}
-
-either : (p q : Bool) → T (p || q) → T p ⊎ T q
-either true q t = inl tt
-either false q t = inr t
 
 module _ (k : ℕ) (small : k ≤ 2 ^ 53) where
   -- the whole part of a number m * 2 ^ e that is at most k, taken down to it or as it stands
@@ -45,7 +42,7 @@ module _ (k : ℕ) (small : k ≤ 2 ^ 53) where
   part-within (fin false n d) (fin true m e) g p v l = absurd (true≢false (v tt).0)
   part-within (fin false n d) (fin false m e) g p v l =
       let cross : m * up e * down d ≤ n * up d * down e =
-      ⊎_elim (λ t. le_of_lt (ltb→lt (m * up e * down d) (n * up d * down e) t)) (λ t. le_of_eq (eqb→eq (m * up e * down d) (n * up d * down e) (and_l (eqb (m * up e * down d) (n * up d * down e)) _ t))) (either (ltb (m * up e * down d) (n * up d * down e)) _ l) in
+      ⊎_elim (λ t. le_of_lt (ltb→lt (m * up e * down d) (n * up d * down e) t)) (λ t. le_of_eq (eqb→eq (m * up e * down d) (n * up d * down e) (and_l (eqb (m * up e * down d) (n * up d * down e)) _ t))) (or_yes (ltb (m * up e * down d) (n * up d * down e)) _ l) in
       let same : n * up d * down e ≡ k * down e * down d = ap (λ (z : ℕ). z * down e) (sym (mul-one (n * up d)) ∙ p.1) ∙ simp (mul_assoc, mul_comm) in
       floor-within m e (le_of_mul-le-mul_right (rw same at cross) (down_pos d))
 

@@ -5,7 +5,7 @@
 use mathlib.Core.Path.{◌≡◌, refl, sym, ap, ◌∙◌, subst}
 use mathlib.Core.Bool.{true, false}
 use Prim.Native.Nat.{ℕ, zero, suc, ◌+◌, ◌-◌, ◌*◌, ◌/◌, ◌^◌, ◌≤◌, ◌<◌}
-use native.Mathlib.Nat.{le_trans, le_of_eq, le_antisymm, lt_of_lt_of_le, lt_of_le_of_lt, lt_of_not-le, not-le_of_lt, lt_of_mul-lt-mul_right, le_of_suc-le-suc, suc-mul, add-mul, mul-add, mul-one, mul_assoc, mul_left_comm, mul-pos, mul-le-mul_right, mul-lt-mul_of_pos_right, div-lt_iff_lt-mul, mul-div_cancel, pow-succ'}
+use native.Mathlib.Nat.{le_trans, le_of_eq, le_antisymm, lt_of_lt_of_le, lt_of_le_of_lt, lt_of_not-le, not-le_of_lt, lt_of_mul-lt-mul_right, le_of_suc-le-suc, suc-mul, add-mul, mul-add, mul-one, mul_assoc, mul_left_comm, mul-mul-mul_comm, mul-pos, mul-le-mul_right, mul-lt-mul_of_pos_right, div-lt_iff_lt-mul, mul-div_cancel, pow-succ'}
 use native.Mathlib.Omega.{arith}
 use lib.IntN.{ℤ, pos, negsuc}
 use lib.Dec.{T, lit<, lit≤}
@@ -19,7 +19,7 @@ use lib.Ieee.Positive.{positive}
 use Rattle.root.specs.Root.{halves, sqrt_of}
 use Rattle.root.proofs.Whole.{twice-squared}
 use Rattle.root.proofs.Closest.{Near, closest-near}
-use Rattle.root.proofs.Halves.{above, from, below, root-lt, square-product}
+use Rattle.root.proofs.Halves.{above, from, below, root-lt}
 use Rattle.root.proofs.Value.{root_is, units_of_lem, sqrt-of-units}
 
 -- of the multiples of 2 ^ k, where the root of n has 53 digits above 2 ^ k, r * 2 ^ k is the nearest to it
@@ -112,8 +112,8 @@ module _ (n m i : ℕ) (digits : m < 2 ^ 53) (is : n ≡ m * 2 ^ i) where
       let before : s ≡ 2 * (r - 1) + 1 = omega (arith, least) in
       let under : s * P * (s * P) ≤ 4 * n = omega (arith, even-square s j, square_le n (s * 2 ^ j) (omega (arith, even s j, suc-mul s P, odd, mul_assoc 2 r P))) in
       let over : 4 * n ≤ t * P * (t * P) = omega (arith, even-square t j, square-ge n (t * 2 ^ j) (omega (arith, even t j, add-mul (2 * r) 1 P, mul_assoc 2 r P))) in
-      let lower : s * P * (s * P) ≡ (2 * (r - 1) + 1) * (2 * (r - 1) + 1) * Q = square-product s P ∙ ap (λ (x : ℕ). x * x * Q) before in
-      let upper : t * P * (t * P) ≡ t * t * Q = square-product t P in
+      let lower : s * P * (s * P) ≡ (2 * (r - 1) + 1) * (2 * (r - 1) + 1) * Q = mul-mul-mul_comm s P s P ∙ ap (λ (x : ℕ). x * x * Q) before in
+      let upper : t * P * (t * P) ≡ t * t * Q = mul-mul-mul_comm t P t P in
       record {
         low = low;
         high = lt_of_not-le (λ (g : 2 ^ 53 * P * (2 ^ 53 * P) ≤ n). not-le_of_lt within (omega (arith, from n (2 ^ 53 * P) g)));

@@ -1,8 +1,7 @@
 -- `halves n` lies among the even numbers as twice the root of n does. Assumes nothing.
-use mathlib.Core.Path.{◌≡◌}
 use mathlib.Core.Bool.{Bool, true, false, not, cond}
 use Prim.Native.Nat.{ℕ, suc, ◌+◌, ◌*◌, ◌≤◌, ◌<◌}
-use native.Mathlib.Nat.{lt_of_not-le, not-le_of_lt, mul_assoc, mul_left_comm, mul-le-mul}
+use native.Mathlib.Nat.{lt_of_not-le, not-le_of_lt, mul-le-mul}
 use native.Mathlib.Omega.{arith}
 use lib.Dec.{T, ltb, nltb→le}
 use Rattle.root.specs.Root.{isqrt, halves}
@@ -35,6 +34,3 @@ module _ (n : ℕ) where
       go : (b : Bool) → 2 * isqrt n + cond b 1 0 < 2 * u
       go true = omega (arith, q)
       go false = omega (arith, q)
-
-pub square-product : (a b : ℕ) → a * b * (a * b) ≡ a * a * (b * b)
-square-product a b = simp (mul_assoc, mul_left_comm)

@@ -3,7 +3,7 @@
 use mathlib.Core.Path.{◌≡◌, refl, sym, ap, ◌∙◌}
 use mathlib.Core.Bool.{true, false, cond}
 use Prim.Native.Nat.{ℕ, zero, suc, ◌+◌, ◌-◌, ◌*◌, ◌/◌, ◌^◌, ◌≤◌, ◌<◌}
-use native.Mathlib.Nat.{le_of_suc-le-suc, lt_of_not-le, lt_of_le_of_lt, mul_assoc, mul_comm, mul_left_comm, mul_right_comm, mul-pos, mul-le-mul_right, mul-lt-mul_of_pos_right, mul-div_cancel, div-eq_of_lt-le, zero-mul, add-mul, suc-mul, pow-succ'}
+use native.Mathlib.Nat.{le_of_suc-le-suc, lt_of_not-le, lt_of_le_of_lt, mul_assoc, mul_comm, mul_left_comm, mul_right_comm, mul-mul-mul_comm, mul-pos, mul-le-mul_right, mul-lt-mul_of_pos_right, mul-div_cancel, div-eq_of_lt-le, zero-mul, add-mul, suc-mul, pow-succ'}
 use native.Mathlib.Omega.{arith}
 use borrow.Author.Tests.{eq-eqb, ne_eqb, ltb-true, ltb-false}
 use lib.IntN.{pos}
@@ -16,9 +16,9 @@ use lib.Ieee.Nearest.{closest, closest_same, div_same}
 use lib.Ieee.Root.{whole_part}
 use Rattle.ieee.proofs.Tests.{by-test}
 use Rattle.root.specs.Root.{isqrt, halves, root_of, sqrt_of}
-use Rattle.root.proofs.Whole.{isqrt-is}
+use Rattle.root.proofs.Whole.{isqrt-is, twice-squared}
 use Rattle.root.proofs.Closest.{closest-is}
-use Rattle.root.proofs.Halves.{above, from, below, root-lt, square-product}
+use Rattle.root.proofs.Halves.{above, from, below, root-lt}
 use Rattle.root.proofs.Value.{root_is, units_of_lem, sqrt-of-units}
 use Rattle.root.proofs.Enclosed.{Enclosed, Rounded, rounded, square_le, scaled}
 
@@ -52,8 +52,8 @@ module _ (n P : ℕ) (p : 0 < P) where
       let q = halves n / 2 in
       let low : q * q ≤ n = square_le n q (omega arith) in
       let high : n < suc q * suc q = lt_of_not-le (λ (g : suc q * suc q ≤ n). let t : 2 * suc q ≤ halves n = from n (suc q) g in omega (arith, t)) in
-      let lo : 2 * (q * P) ≤ halves M = from M (q * P) (omega (arith, square-product q P, mul-le-mul_right (P * P) low)) in
-      let hi : halves M < 2 * (suc q * P) = below M (suc q * P) (omega (arith, square-product (suc q) P, mul-lt-mul_of_pos_right high (mul-pos p p))) in
+      let lo : 2 * (q * P) ≤ halves M = from M (q * P) (omega (arith, mul-mul-mul_comm q P q P, mul-le-mul_right (P * P) low)) in
+      let hi : halves M < 2 * (suc q * P) = below M (suc q * P) (omega (arith, mul-mul-mul_comm (suc q) P (suc q) P, mul-lt-mul_of_pos_right high (mul-pos p p))) in
       div-eq_of_lt-le (2 * P) (omega (arith, lo, mul_left_comm q 2 P)) (omega (arith, hi, mul_left_comm (q + 1) 2 P))
 
   -- the same number is nearest
@@ -68,10 +68,7 @@ module _ (n P : ℕ) (p : 0 < P) where
     square : (s : ℕ) → s * 2 ^ suc j * (s * 2 ^ suc j) * (P * P) ≡ 4 * (s * H * (s * H))
     square s =
         let e : s * 2 ^ suc j * P ≡ 2 * (s * H) = mul_assoc s (2 ^ suc j) P ∙ ap (λ (x : ℕ). s * x) doubled ∙ mul_left_comm s 2 H in
-        sym (square-product (s * 2 ^ suc j) P) ∙ ap (λ (x : ℕ). x * x) e ∙ twice-square (s * H)
-      where
-        twice-square : (x : ℕ) → 2 * x * (2 * x) ≡ 4 * (x * x)
-        twice-square x = mul_assoc 2 x (2 * x) ∙ ap (λ (y : ℕ). 2 * y) (mul_left_comm x 2 x) ∙ sym (mul_assoc 2 2 (x * x))
+        sym (mul-mul-mul_comm (s * 2 ^ suc j) P (s * 2 ^ suc j) P) ∙ ap (λ (x : ℕ). x * x) e ∙ twice-squared (s * H)
 
     four : 4 * n * (P * P) ≡ 4 * M
     four = mul_assoc 4 n (P * P)

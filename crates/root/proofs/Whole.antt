@@ -1,8 +1,8 @@
 -- `isqrt n` is the whole part of the root of n: its square is at most n, and the next number's is above it. Assumes nothing.
-use mathlib.Core.Path.{◌≡◌, sym, ap, ◌∙◌}
+use mathlib.Core.Path.{◌≡◌, ap, ◌∙◌}
 use mathlib.Core.Bool.{Bool, true, false, not, cond}
 use Prim.Native.Nat.{ℕ, zero, suc, ◌*◌, ◌/◌, ◌^◌, ◌≤◌, ◌<◌}
-use native.Mathlib.Nat.{mul_assoc, mul_left_comm, pow-succ', lt_of_lt_of_le}
+use native.Mathlib.Nat.{mul-mul-mul_comm, pow-le-pow_left, pow-succ', lt_of_lt_of_le}
 use native.Mathlib.Omega.{arith}
 use lib.Dec.{T, leb, leb→le, nleb→lt}
 use lib.Ieee.{size}
@@ -14,7 +14,7 @@ abbrev pub IsRoot : ℕ → ℕ → Type 0
 IsRoot n r = (r * r ≤ n) × (n < suc r * suc r)
 
 pub twice-squared : (r : ℕ) → 2 * r * (2 * r) ≡ 4 * (r * r)
-twice-squared r = mul_assoc 2 r (2 * r) ∙ ap (λ (x : ℕ). 2 * x) (mul_left_comm r 2 r) ∙ sym (mul_assoc 2 2 (r * r))
+twice-squared r = mul-mul-mul_comm 2 r 2 r
 
 last-digit : (n r : ℕ) → IsRoot (n / 4) r → IsRoot n (last_digit (2 * r) n)
 unfolding last_digit
@@ -34,10 +34,6 @@ unfolding root_by
 root_by_lem zero n h = (omega arith, omega arith)
 root_by_lem (suc k) n h = last-digit n (root_by k (n / 4)) (root_by_lem k (n / 4) (omega (arith, pow-succ' 4 k)))
 
-two-le-four : (k : ℕ) → 2 ^ k ≤ 4 ^ k
-two-le-four zero = omega arith
-two-le-four (suc k) = omega (arith, pow-succ' 2 k, pow-succ' 4 k, two-le-four k)
-
 pub isqrt-is : (n : ℕ) → IsRoot n (isqrt n)
 unfolding isqrt
-isqrt-is n = root_by_lem (size n) n (lt_of_lt_of_le (size-lt n) (two-le-four (size n)))
+isqrt-is n = root_by_lem (size n) n (lt_of_lt_of_le (size-lt n) (pow-le-pow_left (omega arith) (size n)))

@@ -15,38 +15,25 @@ deviations-length : (m : Float) (vs : List ℕ) → length (deviations m (floats
 unfolding floats
 deviations-length m vs = length-map (floats vs) _ ∙ length-map vs _
 
-pub quantile_first-requires-clause-n_in_bounds : goal.quantile_first-requires-clause-n_in_bounds
-quantile_first-requires-clause-n_in_bounds c =
+pub quantile_first-requires : goal.quantile_first-requires
+quantile_first-requires c =
     let med = c.median-middle in
     let k = c.keep_deviations-n in
     let vs = c.args.values.now in
     let room : 2 * length vs ≤ length med.new.work = omega (arith, med.auto.work, c.requires) in
-    (kept-ready (deviations med.result (floats vs)) med.new.work k.new.work k.result (length vs) (deviations-length med.result vs) k.ensures.value k.ensures.work_after room k.auto.work).0
+    let ready = kept-ready (deviations med.result (floats vs)) med.new.work k.new.work k.result (length vs) (deviations-length med.result vs) k.ensures.value k.ensures.work_after room k.auto.work in
+    record { n_in_bounds = ready.0; sortable = ready.1 }
 
-pub quantile_first-requires-clause-sortable : goal.quantile_first-requires-clause-sortable
-quantile_first-requires-clause-sortable c =
-    let med = c.median-middle in
-    let k = c.keep_deviations-n in
-    let vs = c.args.values.now in
-    let room : 2 * length vs ≤ length med.new.work = omega (arith, med.auto.work, c.requires) in
-    (kept-ready (deviations med.result (floats vs)) med.new.work k.new.work k.result (length vs) (deviations-length med.result vs) k.ensures.value k.ensures.work_after room k.auto.work).1
-
-pub returns-clause-value : goal.returns-clause-value
-returns-clause-value c =
+pub returns : goal.returns
+returns c =
     let med = c.median-middle in
     let k = c.keep_deviations-n in
     let vs = c.args.values.now in
     let first = c.quantile_first in
-    (kept-quantile (deviations med.result (floats vs)) med.new.work k.new.work k.result (length vs) (deviations-length med.result vs) k.ensures.value k.ensures.work_after
-    (of_bits binary64 0x3FE0000000000000) first.result first.new.work (first.ensures.value, first.ensures.work_unchanged)).0
-    ∙ ap (λ (m : Float). median_of (deviations m (floats vs))) med.ensures.value
-
-pub returns-clause-work_unchanged : goal.returns-clause-work_unchanged
-returns-clause-work_unchanged c =
-    let med = c.median-middle in
-    let k = c.keep_deviations-n in
-    let vs = c.args.values.now in
-    let first = c.quantile_first in
-    (kept-quantile (deviations med.result (floats vs)) med.new.work k.new.work k.result (length vs) (deviations-length med.result vs) k.ensures.value k.ensures.work_after
-    (of_bits binary64 0x3FE0000000000000) first.result first.new.work (first.ensures.value, first.ensures.work_unchanged)).1
-    ∙ med.ensures.work_unchanged
+    let of_first =
+    kept-quantile (deviations med.result (floats vs)) med.new.work k.new.work k.result (length vs) (deviations-length med.result vs) k.ensures.value k.ensures.work_after
+    (of_bits binary64 0x3FE0000000000000) first.result first.new.work (first.ensures.value, first.ensures.work_unchanged) in
+    record {
+      value = of_first.0 ∙ ap (λ (m : Float). median_of (deviations m (floats vs))) med.ensures.value;
+      work_unchanged = of_first.1 ∙ med.ensures.work_unchanged;
+    }

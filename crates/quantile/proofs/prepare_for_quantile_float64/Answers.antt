@@ -1,66 +1,53 @@
 -- `quantile::prepare_for_quantile_float64` meets its contract: what is kept has room behind it, is no NaN, and is sorted.
 -- Assumes nothing.
 use mathlib.Core.Path.{◌≡◌, ap, ◌∙◌}
-use mathlib.Core.List.{List, ◌++◌}
+use mathlib.Core.List.{List, ◌++◌, map, map-id}
 use Prim.Native.Nat.{ℕ, ◌*◌, ◌≤◌}
-use native.Mathlib.Omega.{arith}
+use borrow.Author.Rules.{rules}
 use lib.Ieee.{Float}
-use lib.ListN.{length, take, drop, length-take}
+use lib.ListN.{length, take, drop}
 use Rattle.ieee.specs.Patterns.{floats}
 use Rattle.ieee.proofs.Floats.{length-floats}
 use Rattle.order.specs.Order.{Sortable, sorted}
 use Rattle.order.specs.declared.Order.TheVariants.{Partial}
 use Rattle.sort.specs.Values.{kept}
 use Rattle.sort.proofs.Halves.{first-half, part-first, part-behind}
-use borrow.Author.Rules.{rules}
-use Rattle.quantile.proofs.Kept.{map-same, kept-ready, kept-first, kept-behind}
+use Rattle.quantile.proofs.Kept.{kept-ready, kept-first, kept-behind}
 use Rattle.quantile.proofs.prepare_for_quantile_float64.Goals as goal
 
--- what is kept, once it is
-ready : (vs : List ℕ) (w₀ w : List Float) (n : ℕ) → n ≡ length (kept (floats vs)) → w ≡ kept (floats vs) ++ drop n w₀ → 2 * length vs ≤ length w₀ → length w ≡ length w₀ → (2 * n ≤ length w) × Sortable Partial (take n w)
-ready vs w₀ w n size is room long = kept-ready (floats vs) w₀ w n (length vs) (length-floats vs) size is room long
+-- w, which was w₀, once n values are kept
+record Prepared (vs : List ℕ) (w₀ w : List Float) (n : ℕ) : Type 0 where
+  size : n ≡ length (kept (floats vs))
+  first : take n w ≡ kept (floats vs)
+  ready : (2 * n ≤ length w) × Sortable Partial (take n w)
+  behind : (last : List Float) → drop (2 * n) last ≡ drop (2 * n) w → drop (2 * length vs) last ≡ drop (2 * length vs) w₀
 
-pub slice_bounds-sort-end : goal.slice_bounds-sort-end
-slice_bounds-sort-end c =
-    let k = c.keep-kept in
-    let size : k.result ≡ length (kept (floats c.args.values.now)) = k.ensures.value (λ x. x) (search rules) ∙ ap (λ (l : List Float). length (kept l)) (map-same (floats c.args.values.now)) in
-    let is : k.new.work ≡ kept (floats c.args.values.now) ++ drop k.result c.args.work.now = k.ensures.work_after (λ x. x) (search rules) ∙ ap (λ (l : List Float). kept l ++ drop k.result c.args.work.now) (map-same (floats c.args.values.now)) in
-    (ready c.args.values.now c.args.work.now k.new.work k.result size is c.requires k.auto.work).0
-
-pub slice_bounds-sort-end-2 : goal.slice_bounds-sort-end-2
-slice_bounds-sort-end-2 c =
-    let k = c.keep-kept in
-    let size : k.result ≡ length (kept (floats c.args.values.now)) = k.ensures.value (λ x. x) (search rules) ∙ ap (λ (l : List Float). length (kept l)) (map-same (floats c.args.values.now)) in
-    let is : k.new.work ≡ kept (floats c.args.values.now) ++ drop k.result c.args.work.now = k.ensures.work_after (λ x. x) (search rules) ∙ ap (λ (l : List Float). kept l ++ drop k.result c.args.work.now) (map-same (floats c.args.values.now)) in
-    let h = (ready c.args.values.now c.args.work.now k.new.work k.result size is c.requires k.auto.work).0 in
-    simp length-take (omega (arith, h))
+-- what `keep` finds of a value is the value itself
+prepared : (vs : List ℕ) (w₀ w : List Float) (n : ℕ) → n ≡ length (kept (map (λ x. x) (floats vs))) → w ≡ kept (map (λ x. x) (floats vs)) ++ drop n w₀ → 2 * length vs ≤ length w₀ → length w ≡ length w₀ → Prepared vs w₀ w n
+prepared vs w₀ w n found left room long =
+    let all = floats vs in
+    let size : n ≡ length (kept all) = rw map-id at found in
+    let is : w ≡ kept all ++ drop n w₀ = rw map-id at left in
+    record {
+      size = size;
+      first = kept-first all w₀ w n (length vs) (length-floats vs) size is;
+      ready = kept-ready all w₀ w n (length vs) (length-floats vs) size is room long;
+      behind = kept-behind all w₀ w n (length vs) (length-floats vs) size is;
+    }
 
 pub sort-requires : goal.sort-requires
 sort-requires c =
     let k = c.keep-kept in
-    let size : k.result ≡ length (kept (floats c.args.values.now)) = k.ensures.value (λ x. x) (search rules) ∙ ap (λ (l : List Float). length (kept l)) (map-same (floats c.args.values.now)) in
-    let is : k.new.work ≡ kept (floats c.args.values.now) ++ drop k.result c.args.work.now = k.ensures.work_after (λ x. x) (search rules) ∙ ap (λ (l : List Float). kept l ++ drop k.result c.args.work.now) (map-same (floats c.args.values.now)) in
-    let r = ready c.args.values.now c.args.work.now k.new.work k.result size is c.requires k.auto.work in
-    rw (first-half k.result k.new.work r.0) r.1
+    let p = prepared _ _ k.new.work k.result (k.ensures.value (λ x. x) (search rules)) (k.ensures.work_after (λ x. x) (search rules)) c.requires k.auto.work in
+    rw (first-half k.result k.new.work p.ready.0) p.ready.1
 
-pub returns-clause-work_after : goal.returns-clause-work_after
-returns-clause-work_after c =
-    let vs = c.args.values.now in
+pub returns : goal.returns
+returns c =
     let k = c.keep-kept in
-    let size : k.result ≡ length (kept (floats c.args.values.now)) = k.ensures.value (λ x. x) (search rules) ∙ ap (λ (l : List Float). length (kept l)) (map-same (floats c.args.values.now)) in
-    let is : k.new.work ≡ kept (floats c.args.values.now) ++ drop k.result c.args.work.now = k.ensures.work_after (λ x. x) (search rules) ∙ ap (λ (l : List Float). kept l ++ drop k.result c.args.work.now) (map-same (floats c.args.values.now)) in
-    let room = (ready vs c.args.work.now k.new.work k.result size is c.requires k.auto.work).0 in
-    part-first k.result k.new.work room (sorted Partial) c.sort.new.w c.sort.auto.w c.sort.ensures
-    ∙ ap (sorted Partial) (kept-first (floats vs) c.args.work.now k.new.work k.result (length vs) (length-floats vs) size is)
-
-pub returns-clause-work_unchanged : goal.returns-clause-work_unchanged
-returns-clause-work_unchanged c =
-    let vs = c.args.values.now in
-    let k = c.keep-kept in
-    let size : k.result ≡ length (kept (floats c.args.values.now)) = k.ensures.value (λ x. x) (search rules) ∙ ap (λ (l : List Float). length (kept l)) (map-same (floats c.args.values.now)) in
-    let is : k.new.work ≡ kept (floats c.args.values.now) ++ drop k.result c.args.work.now = k.ensures.work_after (λ x. x) (search rules) ∙ ap (λ (l : List Float). kept l ++ drop k.result c.args.work.now) (map-same (floats c.args.values.now)) in
-    let room = (ready vs c.args.work.now k.new.work k.result size is c.requires k.auto.work).0 in
-    kept-behind (floats vs) c.args.work.now k.new.work k.result (length vs) (length-floats vs) size is _ (part-behind k.result k.new.work room (sorted Partial) c.sort.new.w c.sort.auto.w)
-
-pub returns-clause-value : goal.returns-clause-value
-returns-clause-value c = c.keep-kept.ensures.value (λ x. x) (search rules) ∙ ap (λ (l : List Float). length (kept l)) (map-same (floats c.args.values.now))
+    let s = c.sort in
+    let p = prepared _ _ k.new.work k.result (k.ensures.value (λ x. x) (search rules)) (k.ensures.work_after (λ x. x) (search rules)) c.requires k.auto.work in
+    record {
+      value = p.size;
+      work_after = part-first k.result k.new.work p.ready.0 (sorted Partial) s.new.w s.auto.w s.ensures ∙ ap (sorted Partial) p.first;
+      work_unchanged = p.behind _ (part-behind k.result k.new.work p.ready.0 (sorted Partial) s.new.w s.auto.w);
+    }

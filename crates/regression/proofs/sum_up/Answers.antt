@@ -1,6 +1,7 @@
 -- `regression::sum_up` meets its contract. At each turn, what is summed and what is left make the whole.
 -- Assumes nothing.
-use Rattle.std.proofs.Common.{rules, ◌≡◌, ℕ, ◌+◌, ◌≤◌, ◌<◌, List, [], ◌∷◌, add-one, arith, leb-true, drop-cons, drop_of_length-le}
+use Rattle.std.proofs.Common.{rules, ◌≡◌, ℕ, ◌≤◌, ◌<◌, List, [], ◌∷◌, arith, leb-true, drop_of_length-le}
+use Rattle.std.proofs.lemmas.List.{drop_more}
 use Prim.Native.Nat.{min}
 use mathlib.Core.Logic.{◌⊎◌, inl, inr}
 use borrow.Author.Tests.{leb-false}
@@ -16,9 +17,6 @@ use Rattle.ieee.proofs.Tests.{by-test}
 use Rattle.regression.specs.declared.Sums.{Sums}
 use Rattle.regression.specs.Regression.{seconds_from, sums_from, sums_with}
 use Rattle.regression.proofs.sum_up.Goals as goal
-
-left_at : {A : Type 0} (l : List A) (i : ℕ) (d : A) → i < length l → drop i l ≡ get_or l i d ∷ drop (i + 1) l
-left_at l i d h = rw (add-one i) (drop-cons l i d h)
 
 none_left : {A B : Type 0} (l : List A) (m : List B) (i : ℕ) → min (length l) (length m) ≤ i → (drop i l ≡ []) ⊎ (drop i m ≡ [])
 none_left l m i h =
@@ -47,7 +45,7 @@ loop-i-preserved c =
     let ic = to_z-of_z w64 c.args.intercept_time c.ranges.intercept_time in
     let less : SFits w64 (to_z w64 (of_z w64 (get_or ts i (pos 0))) -ℤ to_z w64 (of_z w64 c.args.intercept_time)) = rw (known, ic) (c.requires.by_index i in_times) in
     rw (c.with-sums.ensures, c.seconds.ensures, c.value_of.ensures, to_z-of_z w64 _ less, known)
-    (one_more _ _ _ _ _ _ _ _ _ (left_at vs i 0 in_values) (left_at ts i (pos 0) in_times) c.loop-i.invariant)
+    (one_more _ _ _ _ _ _ _ _ _ (drop_more vs i 0 in_values) (drop_more ts i (pos 0) in_times) c.loop-i.invariant)
 
 pub returns : goal.returns
 returns c =
