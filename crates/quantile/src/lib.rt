@@ -1,5 +1,10 @@
 // Quantiles of a window: the median and the median absolute deviation are quantiles too. NaN is left
 // out, the rest is sorted by `partial_cmp`, and the two values next to the rank are weighted.
+//
+// A work slice has room for twice as many entries as there are values, since nothing is allocated: half of it for the values, half for the
+// copies that a sort makes. A struct of the two slices, with that room as its ghost field, was tried. It proves, but is no plainer: what is
+// called with two slices asks for the room all the same, so that each contract stands twice; by `&mut` each method says besides that it
+// keeps the reference and the values, and handed over by value the struct gets no proof where it is passed on whole.
 #![tactic(auto)]
 
 ghost use Rattle.std.specs.Prelude.{◌≡◌, ◌++◌, ◌*◌, ◌≤◌, Float, from_bits, length, map, take, drop};
