@@ -77,14 +77,12 @@ pub fn record_at(
     let limit = t_start - course.reach;
     let prev_timestamp = predecessor_time(timestamps, i, limit);
     let real_prev_value = value_before(values, i);
-    let next = time_at(timestamps, j);
     RollupFuncArg {
         prev_value: value_if(prev_timestamp, limit, real_prev_value),
         prev_timestamp,
         real_prev_value,
         real_next_value: value_at(values, j),
-        has_next: next.is_some(),
-        next_timestamp: next.unwrap_or(0),
+        next_timestamp: time_at(timestamps, j),
         curr_timestamp: t_end,
         window,
     }

@@ -7,9 +7,7 @@ ghost use Rattle.time_rollups.specs.Deriv.{deriv_fast_of, deriv_slow_of, ideriv_
 
 use crate::ranged::RangedWindow;
 use ieee::nan;
-use window::types::{
-    count_up_to, first, first_time, last, last_time, seconds_between, time_at, value_at,
-};
+use window::types::{count_up_to, first, first_or, last, last_or, seconds_between, value_at};
 
 // The slope of the regression's line.
 pub fn rollup_deriv_slow(ranged: &RangedWindow) -> f64
@@ -31,7 +29,7 @@ fn slope(v_start: f64, t_start: i64, values: &[u64], timestamps: &[i64]) -> f64
     ensures { result ≡ slope_from v_start t_start (floats values.now) timestamps.now }
 {
     let dv = last(values) - v_start;
-    dv / seconds_between(t_start, last_time(timestamps))
+    dv / seconds_between(t_start, last_or(timestamps, 0))
 }
 
 // From the predecessor, or else from the window's first reading, to its last.
@@ -47,7 +45,7 @@ pub fn rollup_deriv_fast(ranged: &RangedWindow) -> f64
         if values.len() < 2 {
             return nan();
         }
-        return slope(first(values), first_time(timestamps), values, timestamps);
+        return slope(first(values), first_or(timestamps, 0), values, timestamps);
     }
     if values.len() == 0 {
         return 0.0;
@@ -68,11 +66,11 @@ pub fn rollup_ideriv(ranged: &RangedWindow) -> f64
     if values.len() == 0 {
         return nan();
     }
-    let count = count_up_to(timestamps, last_time(timestamps));
+    let count = count_up_to(timestamps, last_or(timestamps, 0));
     if count > 0 {
         return slope(
             value_at(values, count - 1),
-            time_at(timestamps, count - 1),
+            timestamps[count - 1],
             values,
             timestamps,
         );

@@ -8,7 +8,7 @@ ghost use Rattle.time_rollups.specs.Integrate.{area_from, integrate_of};
 
 use crate::ranged::RangedWindow;
 use ieee::nan;
-use window::types::{first, first_time, rest, rest_times, seconds_between, time_at, value_at};
+use window::types::{first, first_or, rest, seconds_between, value_at};
 
 // The area from a reading over the window up to the time end.
 fn area(v: f64, t: i64, values: &[u64], timestamps: &[i64], end: i64) -> f64
@@ -22,7 +22,7 @@ fn area(v: f64, t: i64, values: &[u64], timestamps: &[i64], end: i64) -> f64
     let mut sum = 0.0;
     // A zip here took 1.2 times as long.
     for i in 0..values.len().min(timestamps.len()) {
-        let ts = time_at(timestamps, i);
+        let ts = timestamps[i];
         sum = sum + prev_value * seconds_between(prev_timestamp, ts);
         prev_timestamp = ts;
         prev_value = value_at(values, i);
@@ -44,9 +44,9 @@ pub fn rollup_integrate(ranged: &RangedWindow) -> f64
         }
         return area(
             first(values),
-            first_time(timestamps),
+            first_or(timestamps, 0),
             rest(values),
-            rest_times(timestamps),
+            rest(timestamps),
             rfa.curr_timestamp,
         );
     }

@@ -11,9 +11,7 @@ use crate::ranged::RangedWindow;
 use ieee::nan;
 use regression::Line;
 use value_rollups::rollup_fns::rollup_avg;
-use window::types::{
-    RollupFuncArg, first, first_time, init, last, last_time, seconds_between, time_at,
-};
+use window::types::{RollupFuncArg, first, first_or, init, last, last_or, seconds_between};
 
 // Whether v is no less than m, or, where the way is down, no greater.
 fn reaches(down: bool, m: f64, v: f64) -> bool
@@ -30,7 +28,7 @@ fn extreme_time(down: bool, values: &[u64], timestamps: &[i64]) -> f64
         return nan();
     }
     let mut furthest = first(values);
-    let mut time = first_time(timestamps);
+    let mut time = first_or(timestamps, 0);
     for (b, t) in values.iter().zip(timestamps) {
         let v = ieee::value_of(*b);
         if reaches(down, furthest, v) {
@@ -62,7 +60,7 @@ pub fn rollup_tfirst(rfa: RollupFuncArg, timestamps: &[i64]) -> f64
     if timestamps.len() == 0 {
         return nan();
     }
-    ieee::seconds(first_time(timestamps))
+    ieee::seconds(first_or(timestamps, 0))
 }
 
 // The last time, in seconds.
@@ -72,7 +70,7 @@ pub fn rollup_tlast(rfa: RollupFuncArg, timestamps: &[i64]) -> f64
     if timestamps.len() == 0 {
         return nan();
     }
-    ieee::seconds(last_time(timestamps))
+    ieee::seconds(last_or(timestamps, 0))
 }
 
 // How many values stand up to the last one that differs from x.
@@ -103,13 +101,13 @@ pub fn rollup_tlast_change(rfa: RollupFuncArg, values: &[u64], timestamps: &[i64
     }
     let i = changed_up_to(values);
     if i > 0 {
-        return ieee::seconds(time_at(timestamps, i));
+        return ieee::seconds(timestamps[i]);
     }
     let last_value = last(values);
     if rfa.prev_value == last_value {
         return nan();
     }
-    ieee::seconds(first_time(timestamps))
+    ieee::seconds(first_or(timestamps, 0))
 }
 
 // The seconds from the predecessor, or else from the first reading, to the last.
@@ -125,12 +123,12 @@ pub fn rollup_lifetime(ranged: &RangedWindow) -> f64
         if timestamps.len() < 2 {
             return nan();
         }
-        return seconds_between(first_time(timestamps), last_time(timestamps));
+        return seconds_between(first_or(timestamps, 0), last_or(timestamps, 0));
     }
     if timestamps.len() == 0 {
         return nan();
     }
-    seconds_between(rfa.prev_timestamp, last_time(timestamps))
+    seconds_between(rfa.prev_timestamp, last_or(timestamps, 0))
 }
 
 // The average interval between readings.
@@ -166,7 +164,7 @@ pub fn rollup_lag(ranged: &RangedWindow) -> f64
         }
         return seconds_between(rfa.prev_timestamp, rfa.curr_timestamp);
     }
-    seconds_between(last_time(timestamps), rfa.curr_timestamp)
+    seconds_between(last_or(timestamps, 0), rfa.curr_timestamp)
 }
 
 // d in units of the values' deviation, 0.0 where d is.

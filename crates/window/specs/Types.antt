@@ -2,6 +2,7 @@
 -- loop may go by that reads values without a look for NaN.
 -- Assumes nothing.
 use Rattle.std.specs.Prelude.{List, true, ◌≡◌, ℕ, ◌≤◌, ◌<◌, ◌^◌, get_or, length, ℤ, pos, nat_abs}
+use Rattle.std.specs.Option.{ForSome}
 use Rattle.std.specs.Float.{binary64}
 use Rattle.std.specs.Float.Ieee.{of_bits}
 use Rattle.std.specs.Float.Ieee.Scale.{finite}
@@ -21,7 +22,7 @@ AllInRange ts = (i : ℕ) → InRange (get_or ts i (pos 0))
 pub record Ranged (r : RollupFuncArg) (ts : List ℤ) : Type 0 where
   pub curr : InRange r.curr_timestamp
   pub prev : InRange r.prev_timestamp
-  pub next : InRange r.next_timestamp
+  pub next : ForSome r.next_timestamp InRange
   pub window : InRange r.window
   pub times : AllInRange ts
 

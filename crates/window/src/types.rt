@@ -21,10 +21,8 @@ pub struct RollupFuncArg {
     pub real_prev_value: f64,
     // The first value after the output time; NaN where there is none.
     pub real_next_value: f64,
-    // Whether a reading stands after the output time.
-    pub has_next: bool,
-    // The first time after the output time; 0 where there is none.
-    pub next_timestamp: i64,
+    // The first time after the output time, where a reading stands there.
+    pub next_timestamp: Option<i64>,
     // The output time.
     pub curr_timestamp: i64,
     // The window's length.
@@ -49,7 +47,8 @@ pub fn are_finite(values: &[u64]) -> bool
         .fold(true, |known, b| known & ieee::is_finite(*b))
 }
 
-// The first value, NaN where there is none.
+// The first value, NaN where there is none. `first_or` is another function: there an item stands for itself, here a pattern is read as a value
+// and NaN stands for none. So it is for `last`.
 pub fn first(values: &[u64]) -> f64
     ensures { result ≡ first_of (floats values.now) }
 {
@@ -117,33 +116,18 @@ pub fn init<T>(xs: &[T]) -> &[T]
     }
 }
 
-// The time at i.
-pub fn time_at(timestamps: &[i64], i: usize) -> i64
-    requires { i < length timestamps.now }
-    ensures { result ≡ get_or timestamps.now i (pos 0) }
+// The first item, d where there is none.
+pub fn first_or<T: Copy>(xs: &[T], d: T) -> T
+    ensures { result ≡ first_or d xs.now }
 {
-    timestamps[i]
+    xs.first().copied().unwrap_or(d)
 }
 
-// The first time, 0 where there is none.
-pub fn first_time(timestamps: &[i64]) -> i64
-    ensures { result ≡ first_or (pos 0) timestamps.now }
+// The last item, d where there is none.
+pub fn last_or<T: Copy>(xs: &[T], d: T) -> T
+    ensures { result ≡ last_or d xs.now }
 {
-    timestamps.first().copied().unwrap_or(0)
-}
-
-// The last time, 0 where there is none.
-pub fn last_time(timestamps: &[i64]) -> i64
-    ensures { result ≡ last_or (pos 0) timestamps.now }
-{
-    timestamps.last().copied().unwrap_or(0)
-}
-
-// The times after the first.
-pub fn rest_times(timestamps: &[i64]) -> &[i64]
-    ensures { result.now ≡ drop 1 timestamps.now }
-{
-    rest(timestamps)
+    xs.last().copied().unwrap_or(d)
 }
 
 // Whether a is before b.

@@ -14,15 +14,15 @@ returns-then-values-lt2 c = rw (← c.is_nan.ensures, c.if-is_nan.true, length-f
 
 pub slope-requires : goal.slope-requires
 slope-requires c = record {
-  start = rw (read_back c.first_time.result c.first_time.type_inv, c.first_time.ensures) (first-ranged c.args.ranged.now.in_range);
+  start = rw (read_back c.first_or.result c.first_or.type_inv, c.first_or.ensures) (first-ranged c.args.ranged.now.in_range);
   times = c.args.ranged.now.in_range.times;
 }
 
 pub returns-then-is_nan : goal.returns-then-is_nan
 unfolding deriv_fast_of
 returns-then-is_nan c =
-    rw (← c.is_nan.ensures, c.if-is_nan.true, length-floats, le-ltb _ _ c.if-values-lt2.false, ← c.first.ensures, ← c.first_time.ensures)
-    (rw (read_back c.first_time.result c.first_time.type_inv) at c.slope.ensures)
+    rw (← c.is_nan.ensures, c.if-is_nan.true, length-floats, le-ltb _ _ c.if-values-lt2.false, ← c.first.ensures, ← c.first_or.ensures)
+    (rw (read_back c.first_or.result c.first_or.type_inv) at c.slope.ensures)
 
 pub returns-then-values-eq0 : goal.returns-then-values-eq0
 unfolding deriv_fast_of

@@ -10,10 +10,10 @@ use Rattle.time_rollups.proofs.deriv.slope.Goals as goal
 pub seconds_between-requires : goal.seconds_between-requires
 seconds_between-requires c =
     let ts = c.args.timestamps.now in
-    rw c.last_time.ensures (apart (last_or (pos 0) ts) c.args.t_start (last-in ts c.requires.times) c.requires.start)
+    rw c.last_or.ensures (apart (last_or (pos 0) ts) c.args.t_start (last-in ts c.requires.times) c.requires.start)
 
 pub returns : goal.returns
 unfolding slope_from
 returns c =
-    let e = rw (read_back c.last_time.result c.last_time.type_inv, back c.args.t_start c.requires.start) at c.seconds_between.ensures in
-    rw (← c.last.ensures, ← c.last_time.ensures, ← e)
+    let e = rw (read_back c.last_or.result c.last_or.type_inv, back c.args.t_start c.requires.start) at c.seconds_between.ensures in
+    rw (← c.last.ensures, ← c.last_or.ensures, ← e)

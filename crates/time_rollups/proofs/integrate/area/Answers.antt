@@ -3,7 +3,7 @@
 use native.Mathlib.Omega.{arith}
 use Prim.Native.Nat.{min, ◌≤◌, ◌<◌}
 use lib.IntN.{pos}
-use lib.ListN.{length}
+use lib.ListN.{length, get_or}
 use mir.Facts.{to_z-of_z}
 use Rattle.window.specs.Types.{InRange}
 use Rattle.window.proofs.Times.{back}
@@ -20,8 +20,8 @@ loop-i-preserved c =
     let i = c.loop-i.i in
     let in_values : i < length vs = omega arith in
     let in_times : i < length ts = omega arith in
-    let h : InRange c.time_at-ts.result = rw c.time_at-ts.ensures (c.requires.times i) in
-    let known = back c.time_at-ts.result h in
+    let h : InRange (get_or ts i (pos 0)) = c.requires.times i in
+    let known = back (get_or ts i (pos 0)) h in
     (taken c.loop-i.invariant.0 (item vs i 0 in_values).here (item ts i (pos 0) in_times).here (cc known), rw known (omega (arith, h)))
 
 pub returns : goal.returns

@@ -21,16 +21,16 @@ returns-then-values-eq0 c = rw (← c.is_nan.ensures, c.if-is_nan.true, no-value
 pub area-requires-clause-start : goal.area-requires-clause-start
 area-requires-clause-start c =
     let f : InRange (first_or (pos 0) c.args.ranged.now.timestamps.now) = first-ranged c.args.ranged.now.in_range in
-    rw (read_back c.first_time.result c.first_time.type_inv, c.first_time.ensures) (omega (arith, f))
+    rw (read_back c.first_or.result c.first_or.type_inv, c.first_or.ensures) (omega (arith, f))
 
 pub area-requires-clause-times : goal.area-requires-clause-times
-area-requires-clause-times c = λ i. rw (c.rest_times.ensures, get_or-drop 1 c.args.ranged.now.timestamps.now i (pos 0)) (c.args.ranged.now.in_range.times (1 + i))
+area-requires-clause-times c = λ i. rw (c.rest-then-is_nan.ensures, get_or-drop 1 c.args.ranged.now.timestamps.now i (pos 0)) (c.args.ranged.now.in_range.times (1 + i))
 
 pub returns-then-is_nan : goal.returns-then-is_nan
 unfolding integrate_of
 returns-then-is_nan c =
-    rw (← c.is_nan.ensures, c.if-is_nan.true, some-values _ c.if-values-eq0.false, ← c.first.ensures, ← c.first_time.ensures, rest-values, ← c.rest.ensures, ← c.rest_times.ensures)
-    (rw (read_back c.first_time.result c.first_time.type_inv, back c.args.ranged.now.rfa.curr_timestamp c.args.ranged.now.in_range.curr) at c.area.ensures)
+    rw (← c.is_nan.ensures, c.if-is_nan.true, some-values _ c.if-values-eq0.false, ← c.first.ensures, ← c.first_or.ensures, rest-values, ← c.rest.ensures, ← c.rest-then-is_nan.ensures)
+    (rw (read_back c.first_or.result c.first_or.type_inv, back c.args.ranged.now.rfa.curr_timestamp c.args.ranged.now.in_range.curr) at c.area.ensures)
 
 pub returns : goal.returns
 unfolding integrate_of

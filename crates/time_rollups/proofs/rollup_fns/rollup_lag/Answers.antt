@@ -20,10 +20,10 @@ returns-then-timestamps-eq0 c =
 
 pub seconds_between-requires-2 : goal.seconds_between-requires-2
 seconds_between-requires-2 c =
-    rw c.last_time.ensures (apart c.args.ranged.now.rfa.curr_timestamp (last_or (pos 0) c.args.ranged.now.timestamps.now) c.args.ranged.now.in_range.curr (last-ranged c.args.ranged.now.in_range))
+    rw c.last_or.ensures (apart c.args.ranged.now.rfa.curr_timestamp (last_or (pos 0) c.args.ranged.now.timestamps.now) c.args.ranged.now.in_range.curr (last-ranged c.args.ranged.now.in_range))
 
 pub returns : goal.returns
 unfolding lag_of
 returns c =
-    rw (some _ c.if-timestamps-eq0.false, ← c.last_time.ensures)
-    (rw (back c.args.ranged.now.rfa.curr_timestamp c.args.ranged.now.in_range.curr, read_back c.last_time.result c.last_time.type_inv) at c.seconds_between-2.ensures)
+    rw (some _ c.if-timestamps-eq0.false, ← c.last_or.ensures)
+    (rw (back c.args.ranged.now.rfa.curr_timestamp c.args.ranged.now.in_range.curr, read_back c.last_or.result c.last_or.type_inv) at c.seconds_between-2.ensures)

@@ -16,13 +16,13 @@ returns-then-timestamps-lt2 c = rw (← c.is_nan.ensures, c.if-is_nan.true, lt-l
 pub seconds_between-requires : goal.seconds_between-requires
 seconds_between-requires c =
     let ts = c.args.ranged.now.timestamps.now in
-    rw (c.last_time.ensures, c.first_time.ensures) (apart (last_or (pos 0) ts) (first_or (pos 0) ts) (last-ranged c.args.ranged.now.in_range) (first-ranged c.args.ranged.now.in_range))
+    rw (c.last_or.ensures, c.first_or.ensures) (apart (last_or (pos 0) ts) (first_or (pos 0) ts) (last-ranged c.args.ranged.now.in_range) (first-ranged c.args.ranged.now.in_range))
 
 pub returns-then-is_nan : goal.returns-then-is_nan
 unfolding lifetime_of
 returns-then-is_nan c =
-    rw (← c.is_nan.ensures, c.if-is_nan.true, le-ltb _ _ c.if-timestamps-lt2.false, ← c.first_time.ensures, ← c.last_time.ensures)
-    (rw (read_back c.last_time.result c.last_time.type_inv, read_back c.first_time.result c.first_time.type_inv) at c.seconds_between.ensures)
+    rw (← c.is_nan.ensures, c.if-is_nan.true, le-ltb _ _ c.if-timestamps-lt2.false, ← c.first_or.ensures, ← c.last_or.ensures)
+    (rw (read_back c.last_or.result c.last_or.type_inv, read_back c.first_or.result c.first_or.type_inv) at c.seconds_between.ensures)
 
 pub returns-then-timestamps-eq0 : goal.returns-then-timestamps-eq0
 unfolding lifetime_of
@@ -30,10 +30,10 @@ returns-then-timestamps-eq0 c = rw (← c.is_nan.ensures, c.if-is_nan.false, non
 
 pub seconds_between-requires-2 : goal.seconds_between-requires-2
 seconds_between-requires-2 c =
-    rw c.last_time-2.ensures (apart (last_or (pos 0) c.args.ranged.now.timestamps.now) c.args.ranged.now.rfa.prev_timestamp (last-ranged c.args.ranged.now.in_range) c.args.ranged.now.in_range.prev)
+    rw c.last_or-2.ensures (apart (last_or (pos 0) c.args.ranged.now.timestamps.now) c.args.ranged.now.rfa.prev_timestamp (last-ranged c.args.ranged.now.in_range) c.args.ranged.now.in_range.prev)
 
 pub returns : goal.returns
 unfolding lifetime_of
 returns c =
-    rw (← c.is_nan.ensures, c.if-is_nan.false, some _ c.if-timestamps-eq0.false, ← c.last_time-2.ensures)
-    (rw (read_back c.last_time-2.result c.last_time-2.type_inv, back c.args.ranged.now.rfa.prev_timestamp c.args.ranged.now.in_range.prev) at c.seconds_between-2.ensures)
+    rw (← c.is_nan.ensures, c.if-is_nan.false, some _ c.if-timestamps-eq0.false, ← c.last_or-2.ensures)
+    (rw (read_back c.last_or-2.result c.last_or-2.type_inv, back c.args.ranged.now.rfa.prev_timestamp c.args.ranged.now.in_range.prev) at c.seconds_between-2.ensures)

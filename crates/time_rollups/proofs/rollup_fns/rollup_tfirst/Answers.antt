@@ -11,4 +11,4 @@ returns-then-timestamps-eq0 c = rw (none _ c.if-timestamps-eq0.true) c.nan.ensur
 
 pub returns : goal.returns
 unfolding tfirst_of
-returns c = rw (some _ c.if-timestamps-eq0.false, ← c.first_time.ensures) (rw (read_back c.first_time.result c.first_time.type_inv) at c.seconds.ensures)
+returns c = rw (some _ c.if-timestamps-eq0.false, ← c.first_or.ensures) (rw (read_back c.first_or.result c.first_or.type_inv) at c.seconds.ensures)

@@ -11,4 +11,4 @@ returns-then-timestamps-eq0 c = rw (none _ c.if-timestamps-eq0.true) c.nan.ensur
 
 pub returns : goal.returns
 unfolding tlast_of
-returns c = rw (some _ c.if-timestamps-eq0.false, ← c.last_time.ensures) (rw (read_back c.last_time.result c.last_time.type_inv) at c.seconds.ensures)
+returns c = rw (some _ c.if-timestamps-eq0.false, ← c.last_or.ensures) (rw (read_back c.last_or.result c.last_or.type_inv) at c.seconds.ensures)
