@@ -1,6 +1,6 @@
 -- Two series hand a rollup equal records at an output time exactly when they agree on what `Agree` lists: a record's fields are read off what they agree on,
 -- and a value that is no NaN is told from the NaN that stands for none, as a time later than the limit is from the limit;
--- whether there is a next reading tells its time from the 0 that stands for none. Equal records give equal answers.
+-- the next reading's time is held as it is found. Equal records give equal answers.
 -- Assumes nothing.
 use mathlib.Core.Path.{◌≡◌, refl, sym, ap, ◌∙◌, subst}
 use Prim.Native.Nat.{ℕ}
@@ -24,7 +24,7 @@ use Rattle.series.proofs.Accepted.{fails}
 use Rattle.times.specs.Readings.{filter, cons_if}
 use Rattle.times.proofs.Order.{le_trans, lt_not_le, sub-le}
 use Rattle.outputs.specs.Figures.{answer}
-use Rattle.record.specs.Record.{Reading, inside, before, after, last_if_any, window, earlier, later, next, some?, time_of, bits_of, value_of, only_if, or_nan, later_than, reached, where_any, predecessor, Record, record_at}
+use Rattle.record.specs.Record.{Reading, inside, before, after, last_if_any, window, earlier, later, next, time_of, bits_of, value_of, only_if, or_nan, later_than, reached, where_any, predecessor, as_field, Record, record_at}
 use Rattle.claims.specs.Agree.{Agree, Bits, NoNan, Prepared, record_bits}
 use Rattle.claims.proofs.Prepared.{Number, Numbers, prepared-numbers}
 
@@ -88,12 +88,17 @@ module _ (limit : ℤ) where
   told-time (some u) none h = sym (told-one u (lt_z limit u) refl (sym h))
   told-time (some u) (some v) h = told-both u v (lt_z limit u) (lt_z limit v) refl refl h
 
--- a time is told from the 0 that stands for none by whether there is a reading
-told-next : (x y : Option Reading) → some? x ≡ some? y → get_or (time_of x) (pos 0) ≡ get_or (time_of y) (pos 0) → time_of x ≡ time_of y
-told-next none none e h = refl
-told-next none (some y) e h = cc
-told-next (some x) none e h = cc
-told-next (some x) (some y) e h = ap some h
+-- a field tells what it holds
+told-field : {A : Type 0} (x y : Option A) → as_field x ≡ as_field y → x ≡ y
+told-field none none e = refl
+told-field none (some y) e = cc
+told-field (some x) none e = cc
+told-field (some x) (some y) e = cc
+
+-- whether there is one
+abbrev some? : {A : Type 0} → Option A → Bool
+some? none = false
+some? (some x) = true
 
 -- ---- a reading is later than t − w exactly when it is in the window or after t
 
@@ -164,7 +169,7 @@ module _ (a b : List Reading) (w r t : ℤ) (h : le_z (pos 0) w ≡ true) where
   agreement-gives-records g =
       let p : predecessor a w r t ≡ predecessor b w r t =
       where-same (later a w t) (later b w t) (reached a w r t) (reached b w r t) (same-later g.same_window g.same_next) g.same_reached in
-      cc (g.same_window, g.same_earlier, g.same_next, g.same_next_time, some_bits (next a w t), some_bits (next b w t))
+      cc (g.same_window, g.same_earlier, g.same_next, g.same_next_time)
 
   records-give-agreement : Numbers a → Numbers b → record_at a w r t ≡ record_at b w r t → Agree a b w r t
   records-give-agreement na nb e =
@@ -177,7 +182,7 @@ module _ (a b : List Reading) (w r t : ℤ) (h : le_z (pos 0) w ≡ true) where
             told (earlier a w t) (earlier b w t) (earlier-number a w t na) (earlier-number b w t nb) (ap (λ (x : Record). x.arg.real_prev_value) e);
         same_next = ns;
         same_next_time =
-            told-next (next a w t) (next b w t) (ap (λ (x : Record). x.arg.has_next) e) (ap (λ (x : Record). x.arg.next_timestamp) e);
+            told-field (time_of (next a w t)) (time_of (next b w t)) (ap (λ (x : Record). x.arg.next_timestamp) e);
         same_reached = λ i.
             where-told (t -ℤ w -ℤ r) (later a w t) (later b w t) (time_of (earlier a w t)) (time_of (earlier b w t)) (same-later ws ns) i
             (ap (λ (x : Record). x.arg.prev_timestamp) e);
@@ -199,7 +204,6 @@ from_record_bits x = record {
     prev_timestamp = x.prev_timestamp;
     real_prev_value = of_bits binary64 x.real_prev_value;
     real_next_value = of_bits binary64 x.real_next_value;
-    has_next = x.has_next;
     next_timestamp = x.next_timestamp;
     curr_timestamp = x.curr_timestamp;
     window = x.window;

@@ -1,6 +1,6 @@
 -- When two series hand a rollup equal records (docs/CLAIMS.md): which series are meant, when two records are equal, and what the two series agree on.
 -- Assumes nothing.
-use Rattle.std.specs.Prelude.{List, [], ◌∷◌, ◌≡◌, Bool, false, ℕ, ℤ}
+use Rattle.std.specs.Prelude.{List, [], ◌∷◌, ◌≡◌, false, ℕ, ℤ, Option}
 use Rattle.std.proofs.Math.Option.{IsSome}
 use Rattle.std.specs.Float.{binary64}
 use Rattle.std.specs.Float.Ieee.{is_nan, of_bits, to_bits}
@@ -30,8 +30,7 @@ pub record Bits : Type 0 where
   pub prev_timestamp : ℤ
   pub real_prev_value : ℕ
   pub real_next_value : ℕ
-  pub has_next : Bool
-  pub next_timestamp : ℤ
+  pub next_timestamp : Option ℤ
   pub curr_timestamp : ℤ
   pub window : ℤ
   pub readings : List Reading
@@ -42,7 +41,6 @@ record_bits x = record {
   prev_timestamp = x.arg.prev_timestamp;
   real_prev_value = to_bits binary64 x.arg.real_prev_value;
   real_next_value = to_bits binary64 x.arg.real_next_value;
-  has_next = x.arg.has_next;
   next_timestamp = x.arg.next_timestamp;
   curr_timestamp = x.arg.curr_timestamp;
   window = x.arg.window;

@@ -1,10 +1,11 @@
 // Replays the list `rollup`. A case's words are the two parameters, the window record (previous value and
-// time, the values beside the window, whether a reading follows and its time, output time, window), the number of
-// readings, their times, their values, a word that says where the port departs from the Rust, and the answers of
-// the 49 rollups.
+// time, the values beside the window, whether a reading follows and its time, 0 where none does, output time,
+// window), the number of readings, their times, their values, a word that says where the port departs from the
+// Rust, and the answers of the 49 rollups.
 #![tactic(auto)]
 
 ghost use Rattle.std.specs.Prelude.{◌≡◌, ◌≤◌, leb, nat_abs, true, length};
+ghost use Rattle.std.specs.Option.{ForSome};
 ghost use Rattle.window.specs.Types.{InRange, record_limit};
 ghost use Rattle.rollup.specs.Eval.{Ready};
 
@@ -31,18 +32,25 @@ fn in_range(t: i64) -> bool
 fn all_in_range(rfa: RollupFuncArg) -> bool
     ensures curr { result ≡ true → InRange rfa.curr_timestamp }
     ensures prev { result ≡ true → InRange rfa.prev_timestamp }
-    ensures next { result ≡ true → InRange rfa.next_timestamp }
+    ensures next { result ≡ true → ForSome rfa.next_timestamp InRange }
     ensures window { result ≡ true → InRange rfa.window }
 {
     in_range(rfa.curr_timestamp)
         && in_range(rfa.prev_timestamp)
-        && in_range(rfa.next_timestamp)
+        && rfa.next_timestamp.is_none_or(in_range)
         && in_range(rfa.window)
 }
 
 // The next word, as a binary64.
 fn value(words: &mut Cursor) -> Result<f64, Unread> {
     Ok(ieee::value_of(words.word()?))
+}
+
+// The time that the next two words are: whether there is one, and the time, 0 where there is none.
+fn time_if_any(words: &mut Cursor) -> Result<Option<i64>, Unread> {
+    let any = words.number()? != 0;
+    let time = words.number()?;
+    Ok(any.then_some(time))
 }
 
 // The record that the next eight words are.
@@ -52,8 +60,7 @@ fn record(words: &mut Cursor) -> Result<RollupFuncArg, Unread> {
         prev_timestamp: words.number()?,
         real_prev_value: value(words)?,
         real_next_value: value(words)?,
-        has_next: words.number()? != 0,
-        next_timestamp: words.number()?,
+        next_timestamp: time_if_any(words)?,
         curr_timestamp: words.number()?,
         window: words.number()?,
     })

@@ -81,7 +81,9 @@ pub enum RollupHandler {
     UntilNext,
 }
 
-// The chosen rollup's figure for a window.
+// The chosen rollup's figure for a window. One arm for each is plainer than a table of functions: the rollups are handed different things,
+// three of them parameters that stand in their cases, and a match is checked to have them all. Nor does the gate let a function make a
+// pointer to one, or a closure over one, and hand it out.
 fn figure(
     handler: RollupHandler,
     rfa: RollupFuncArg,
