@@ -11,6 +11,7 @@ use value_rollups::rollup_fns::extreme;
 use window::types::{RollupFuncArg, after_seed, count_up_to, is_before, last, prefix, seed};
 
 // The values before the last reading whose time is below the output time.
+#[tactic(auto, unfolding(crate::specs::Candlestick::candlestick))]
 pub fn get_candlestick_values<'a, 'b>(
     rfa: RollupFuncArg,
     values: &'a [u64],
@@ -23,6 +24,7 @@ pub fn get_candlestick_values<'a, 'b>(
 }
 
 // The predecessor, NaN where it lies more than a window's length before the output time.
+#[tactic(auto, unfolding(crate::specs::Candlestick::first_candle))]
 fn get_first_value_for_candlestick(ranged: &RangedWindow) -> f64
     ensures { result ≡ first_candle ranged.now.rfa }
 {

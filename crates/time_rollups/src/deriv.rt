@@ -10,6 +10,7 @@ use ieee::nan;
 use window::types::{count_up_to, first, first_or, last, last_or, seconds_between, value_at};
 
 // The slope of the regression's line.
+#[tactic(auto, unfolding(crate::specs::Deriv::deriv_slow_of))]
 pub fn rollup_deriv_slow(ranged: &RangedWindow) -> f64
     ensures { result ≡ deriv_slow_of ranged.now.rfa (floats ranged.now.values.now) ranged.now.timestamps.now }
 {
@@ -23,6 +24,7 @@ pub fn rollup_deriv_slow(ranged: &RangedWindow) -> f64
 }
 
 // The change a second from a reading to the window's last.
+#[tactic(auto, unfolding(crate::specs::Deriv::slope_from))]
 fn slope(v_start: f64, t_start: i64, values: &[u64], timestamps: &[i64]) -> f64
     requires start { InRange t_start }
     requires times { AllInRange timestamps.now }

@@ -168,6 +168,7 @@ pub fn rollup_lag(ranged: &RangedWindow) -> f64
 }
 
 // d in units of the values' deviation, 0.0 where d is.
+#[tactic(auto, unfolding(crate::specs::RollupFns::zscore_from))]
 fn zscore_of(d: f64, values: &[u64]) -> f64
     ensures { result ≡ zscore_from d (stddev_of (floats values.now)) }
 {
@@ -178,6 +179,7 @@ fn zscore_of(d: f64, values: &[u64]) -> f64
 }
 
 // How far the last value lies from the average, in standard deviations.
+#[tactic(auto, unfolding(crate::specs::RollupFns::zscore_over_time_of))]
 pub fn rollup_zscore_over_time(ranged: &RangedWindow) -> f64
     ensures { result ≡ zscore_over_time_of ranged.now.rfa (floats ranged.now.values.now) ranged.now.timestamps.now }
 {
@@ -197,6 +199,7 @@ pub fn rollup_zscore_over_time(ranged: &RangedWindow) -> f64
 }
 
 // The value of the regression's line some seconds after the output time.
+#[tactic(auto, unfolding(crate::specs::RollupFns::predict_from))]
 fn predict(line: Line, secs: f64) -> f64
     ensures { result ≡ predict_from line secs }
 {
@@ -206,6 +209,7 @@ fn predict(line: Line, secs: f64) -> f64
     line.v + line.k * secs
 }
 
+#[tactic(auto, unfolding(crate::specs::RollupFns::predict_linear_of))]
 pub fn rollup_predict_linear(ranged: &RangedWindow, secs: f64) -> f64
     ensures { result ≡ predict_linear_of ranged.now.rfa (floats ranged.now.values.now) ranged.now.timestamps.now secs }
 {

@@ -9,6 +9,7 @@ use ieee::nan;
 use window::types::{RollupFuncArg, seconds_between};
 
 // The seconds from the output time to the next reading, NaN where there is none.
+#[tactic(auto, unfolding(crate::specs::UntilNext::until_next_of))]
 pub fn rollup_until_next(rfa: RollupFuncArg) -> f64
     requires { InRange rfa.curr_timestamp × ForSome rfa.next_timestamp InRange }
     ensures { result ≡ until_next_of rfa }

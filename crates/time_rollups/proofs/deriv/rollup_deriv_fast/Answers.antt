@@ -12,11 +12,8 @@ pub returns-then-values-lt2 : goal.returns-then-values-lt2
 unfolding deriv_fast_of
 returns-then-values-lt2 c = rw (← c.is_nan.ensures, c.if-is_nan.true, length-floats, lt-ltb _ _ c.if-values-lt2.true) c.nan.ensures
 
-pub slope-requires : goal.slope-requires
-slope-requires c = record {
-  start = rw (read_back c.first_or.result c.first_or.type_inv, c.first_or.ensures) (first-ranged c.args.ranged.now.in_range);
-  times = c.args.ranged.now.in_range.times;
-}
+pub slope-requires-clause-start : goal.slope-requires-clause-start
+slope-requires-clause-start c = rw (read_back c.first_or.result c.first_or.type_inv, c.first_or.ensures) (first-ranged c.args.ranged.now.in_range)
 
 pub returns-then-is_nan : goal.returns-then-is_nan
 unfolding deriv_fast_of

@@ -1,4 +1,4 @@
--- `time_rollups::deriv::slope` meets its contract: both differences are the definition's.
+-- `time_rollups::deriv::slope` may take its two times from each other.
 -- Assumes nothing.
 use lib.IntN.{pos}
 use Rattle.times.proofs.Milli.{read_back}
@@ -11,9 +11,3 @@ pub seconds_between-requires : goal.seconds_between-requires
 seconds_between-requires c =
     let ts = c.args.timestamps.now in
     rw c.last_or.ensures (apart (last_or (pos 0) ts) c.args.t_start (last-in ts c.requires.times) c.requires.start)
-
-pub returns : goal.returns
-unfolding slope_from
-returns c =
-    let e = rw (read_back c.last_or.result c.last_or.type_inv, back c.args.t_start c.requires.start) at c.seconds_between.ensures in
-    rw (← c.last.ensures, ← c.last_or.ensures, ← e)
