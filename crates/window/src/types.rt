@@ -1,10 +1,9 @@
 // The window record that every rollup is handed, and how a rollup reads the window beside it.
 
-ghost use Rattle.std.specs.Prelude.{cond, true, ◌≡◌, ◌+◌, ◌-◌, ◌≤◌, ◌<◌, ◌^◌, drop, get_or, length, take, nat_abs, pos, ◌-ℤ◌};
+ghost use Rattle.std.specs.Prelude.{cond, true, ◌≡◌, ◌+◌, ◌-◌, ◌≤◌, ◌<◌, ◌^◌, drop, get_or, length, take, nat_abs, ◌-ℤ◌};
 ghost use Rattle.std.specs.Int.Signed.{lt_z};
 ghost use Rattle.std.specs.Float.{binary64};
 ghost use Rattle.std.specs.Float.Ieee.{is_nan, of_bits};
-ghost use Rattle.std.specs.Float.Ieee.Scale.{finite};
 ghost use Rattle.ieee.specs.Patterns.{floats};
 ghost use Rattle.ieee.specs.Value.{seconds_of};
 ghost use Rattle.window.specs.Types.{AllFinite};

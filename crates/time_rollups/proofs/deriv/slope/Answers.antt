@@ -1,10 +1,8 @@
 -- `time_rollups::deriv::slope` may take its two times from each other.
 -- Assumes nothing.
 use lib.IntN.{pos}
-use Rattle.times.proofs.Milli.{read_back}
 use Rattle.window.specs.Window.{last_or}
-use Rattle.window.proofs.Times.{back, apart, last-in}
-use Rattle.time_rollups.specs.Deriv.{slope_from}
+use Rattle.window.proofs.Times.{apart, last-in}
 use Rattle.time_rollups.proofs.deriv.slope.Goals as goal
 
 pub seconds_between-requires : goal.seconds_between-requires
