@@ -10,6 +10,10 @@ pub record Counted (t : Tally) : Type 0 where
   pub among : t.differences ≤ t.cases
   pub bytes : t.cases ≤ t.at
 
+-- no case yet; the first begins at a byte
+abbrev pub begun : ℕ → Tally
+begun at = record { at = at; cases = 0; differences = 0; first = None }
+
 -- one case more, up to a byte, with the stored answer
 abbrev pub passed : Tally → ℕ → Tally
 passed t end = record { at = end; cases = t.cases + 1; differences = t.differences; first = t.first }

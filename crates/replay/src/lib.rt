@@ -3,8 +3,10 @@
 // one case.
 #![tactic(auto)]
 
-ghost use Rattle.std.specs.Prelude.{IfOk, IfSome, OnOk, None, cond, ◌≡◌, ◌+◌, ◌*◌, ◌^◌, ◌≤◌, ◌<◌, eqb, drop, length, take};
-ghost use Rattle.replay.specs.Tally.{After, Counted, differed, passed};
+ghost use Rattle.std.specs.Prelude.{IfOk, IfSome, OnOk, None, cond, ◌≡◌, ◌+◌, ◌*◌, ◌^◌, ◌≤◌, ◌<◌, eqb, drop, length, take, List, Option};
+ghost use Rattle.replay.specs.Replayed.{Replayed};
+ghost use Rattle.replay.specs.Tally.{After, Counted, begun, differed, passed};
+ghost use Rattle.vectors.specs.Words.{body_of};
 
 use std::alloc::{AllocError, Global};
 use std::io::{self, Read};
@@ -29,7 +31,8 @@ pub struct Case {
     pub same: bool,
 }
 
-// A test's outcome as it is stored.
+// A test's outcome as it is stored. It stands beside `u64::from`: its clause says how the lists write a test, which no
+// clause of the programs that call it does.
 pub fn flag(b: bool) -> u64
     ensures { result ≡ cond b 1 0 }
 {
@@ -56,7 +59,8 @@ pub struct Tally {
 
 // No case yet; the first begins at a byte.
 pub fn begin(at: usize) -> Tally
-    ensures { Counted result × (result.at ≡ at) × (result.first ≡ None) }
+    ensures counted { Counted result × (result.at ≡ at) × (result.first ≡ None) }
+    ensures exact { result ≡ begun at }
 {
     Tally {
         at,
@@ -133,7 +137,8 @@ pub fn count_cases<F: Fn(&mut Cursor) -> Result<bool, Unread>>(
     case: F,
 ) -> Result<Tally, AllocError>
     requires { F.IsAlwaysCallable case }
-    ensures { IfOk result (λ t. Counted t × (length text.now ≤ t.at)) }
+    ensures counted { IfOk result (λ t. Counted t × (length text.now ≤ t.at)) }
+    ensures judged { IfOk result (λ t. (cases : List (Option Case)) × Replayed F.Fn case text.now (begun (body_of text.now)) cases t) }
 {
     let mut tally = begin(vectors::body(text));
     // No `for` goes on by the length of each case.

@@ -3,12 +3,14 @@
 // 64 bits of a number or of a binary64.
 #![tactic(auto)]
 
-ghost use Rattle.std.specs.Prelude.{◌%◌, map, ◌≡◌, ℕ, ◌+◌, ◌*◌, ◌^◌, ◌≤◌, ◌<◌, pos, get_or, length, IfOk, OnOk, OnErr, vec_len};
+ghost use Rattle.std.specs.Prelude.{◌%◌, map, ◌≡◌, ◌≢◌, ◌⊎◌, ℕ, ◌+◌, ◌*◌, ◌^◌, ◌≤◌, ◌<◌, pos, get_or, length, IfOk, IfErr, OnOk, OnErr, vec_len};
 ghost use Rattle.std.specs.Int.{w64};
 ghost use Rattle.std.proofs.Common.{to_z};
+ghost use Rattle.vectors.specs.declared.Unread.TheVariants.{Malformed};
 ghost use Rattle.vectors.specs.Words.{body_of, digit_of, hex_of, word_at};
 
 use std::alloc::{AllocError, AllocFailed, Global};
+use std::array;
 use std::convert::identity;
 
 // The bytes of a word's digits.
@@ -69,6 +71,28 @@ pub fn signed(w: u64) -> i64
     w.cast_signed()
 }
 
+// The word that stands k words after a byte, and 0 where the text ends before its sixteenth digit.
+pub fn nth_word(text: &[u8], at: usize, k: usize) -> u64
+    ensures { result ≡ word_at text.now (at + 17 * k) }
+{
+    // No text is so long that it has a word where the sum stops.
+    word(text, at.saturating_add(STEP.saturating_mul(k)))
+}
+
+// The N words from a byte on, and 0 for each that the text ends before.
+pub fn words_at<const N: usize>(text: &[u8], at: usize) -> [u64; N]
+    ensures { (k : ℕ) → k < N → get_or result k 0 ≡ word_at text.now (at + 17 * k) }
+{
+    array::from_fn(|k| nth_word(text, at, k))
+}
+
+// The same words as signed numbers.
+pub fn numbers_at<const N: usize>(text: &[u8], at: usize) -> [i64; N]
+    ensures { (k : ℕ) → k < N → get_or result k (pos 0) ≡ to_z w64 (word_at text.now (at + 17 * k)) }
+{
+    array::from_fn(|k| signed(nth_word(text, at, k)))
+}
+
 // Why the next word of a list, or a case, is not read.
 #[derive(Debug, Drop)]
 pub enum Unread {
@@ -79,12 +103,16 @@ pub enum Unread {
 }
 
 impl From<AllocError> for Unread {
+    ghost from_gives = { λ _ e. e ≢ Malformed };
+
     fn from(error: AllocError) -> Self {
         Unread::OutOfMemory(error)
     }
 }
 
 impl<T: Drop> From<AllocFailed<T>> for Unread {
+    ghost from_gives = { λ _ e. e ≢ Malformed };
+
     fn from(error: AllocFailed<T>) -> Self {
         Unread::OutOfMemory(AllocError::from(error))
     }
@@ -107,6 +135,32 @@ impl<'a> Cursor<'a> {
         Cursor { text, at: 0, alloc }
     }
 
+    // Passes over the next n words, and returns the byte where they begin.
+    pub fn pass(&mut self, n: usize) -> Result<usize, Unread>
+        ensures kept { self.new.text.now ≡ self.old.text.now }
+        ensures begin { IfOk result (λ at. at ≡ self.old.at) }
+        ensures moved { OnOk result (self.new.at ≡ self.old.at + 17 * n) }
+        ensures end { OnErr result (length self.old.text.now < self.old.at + 17 * n) }
+    {
+        let at = self.at;
+        if (self.text.len() - at) / STEP < n {
+            return Err(Unread::Malformed);
+        }
+        self.at += STEP * n;
+        Ok(at)
+    }
+
+    // The next N words.
+    pub fn array<const N: usize>(&mut self) -> Result<[u64; N], Unread>
+        ensures kept { self.new.text.now ≡ self.old.text.now }
+        ensures by_index { IfOk result (λ xs. (k : ℕ) → k < N → get_or xs k 0 ≡ word_at self.old.text.now (self.old.at + 17 * k)) }
+        ensures moved { OnOk result (self.new.at ≡ self.old.at + 17 * N) }
+        ensures end { OnErr result (length self.old.text.now < self.old.at + 17 * N) }
+    {
+        let at = self.pass(N)?;
+        Ok(words_at(self.text, at))
+    }
+
     // The next word.
     pub fn word(&mut self) -> Result<u64, Unread>
         ensures kept { self.new.text.now ≡ self.old.text.now }
@@ -114,12 +168,8 @@ impl<'a> Cursor<'a> {
         ensures moved { OnOk result (self.new.at ≡ self.old.at + 17) }
         ensures end { OnErr result (length self.old.text.now < self.old.at + 17) }
     {
-        if self.text.len() - self.at < STEP {
-            return Err(Unread::Malformed);
-        }
-        let digits = word(self.text, self.at);
-        self.at += STEP;
-        Ok(digits)
+        let at = self.pass(1)?;
+        Ok(word(self.text, at))
     }
 
     // The next word, as a signed number.
@@ -137,6 +187,7 @@ impl<'a> Cursor<'a> {
         ensures kept { self.new.text.now ≡ self.old.text.now }
         ensures word { IfOk result (λ n. (n ≡ word_at self.old.text.now self.old.at) × (n ≤ 64)) }
         ensures moved { OnOk result (self.new.at ≡ self.old.at + 17) }
+        ensures end { OnErr result ((length self.old.text.now < self.old.at + 17) ⊎ (64 < word_at self.old.text.now self.old.at)) }
     {
         let n = self.word()?;
         if n > MOST {
@@ -152,12 +203,15 @@ impl<'a> Cursor<'a> {
         ensures moved { OnOk result (self.new.at ≡ self.old.at + 17 * n) }
         ensures size { IfOk result (λ xs. vec_len xs ≡ n) }
         ensures by_index { IfOk result (λ xs. (k : ℕ) (d : T) → k < n → F.post of (word_at self.old.text.now (self.old.at + 17 * k)) (get_or xs.items k d)) }
+        ensures end { IfErr result (λ e. e ≡ Malformed → length self.old.text.now < self.old.at + 17 * n) }
     {
-        let mut list = Vec::with_capacity(self.alloc, n)?;
-        for _ in 0..n {
-            list.push(of(self.word()?))?;
-        }
-        Ok(list)
+        let at = self.pass(n)?;
+        let text = self.text;
+        Ok(
+            (0..n)
+                .map(|k| of(nth_word(text, at, k)))
+                .collect(self.alloc)?,
+        )
     }
 
     // The next n words.
@@ -166,6 +220,7 @@ impl<'a> Cursor<'a> {
         ensures moved { OnOk result (self.new.at ≡ self.old.at + 17 * n) }
         ensures size { IfOk result (λ xs. length xs.items ≡ n) }
         ensures by_index { IfOk result (λ xs. (k : ℕ) → k < n → get_or xs.items k 0 ≡ word_at self.old.text.now (self.old.at + 17 * k)) }
+        ensures end { IfErr result (λ e. e ≡ Malformed → length self.old.text.now < self.old.at + 17 * n) }
     {
         self.list(n, identity)
     }
@@ -176,6 +231,7 @@ impl<'a> Cursor<'a> {
         ensures moved { OnOk result (self.new.at ≡ self.old.at + 17 * n) }
         ensures size { IfOk result (λ xs. length xs.items ≡ n) }
         ensures by_index { IfOk result (λ xs. (k : ℕ) → k < n → get_or xs.items k (pos 0) ≡ to_z w64 (word_at self.old.text.now (self.old.at + 17 * k))) }
+        ensures end { IfErr result (λ e. e ≡ Malformed → length self.old.text.now < self.old.at + 17 * n) }
     {
         self.list(n, signed)
     }
