@@ -67,10 +67,8 @@ impl Operation {
 
 // Whether the next case has the stored answer. A number that names no operation counts as a difference.
 fn case(words: &mut Cursor) -> Result<bool, Unread> {
-    let operation = Operation::try_from(words.word()?);
-    let a = words.word()?;
-    let b = words.word()?;
-    let stored = words.word()?;
+    let [number, a, b, stored] = words.array::<4>()?;
+    let operation = Operation::try_from(number);
     Ok(operation.is_ok_and(|operation| operation.answer(a, b) == stored))
 }
 

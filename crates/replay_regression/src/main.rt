@@ -33,8 +33,7 @@ fn case(words: &mut Cursor) -> Result<bool, Unread> {
     let values = words.words(n)?;
     let intercept = words.number()?;
     let timestamps = words.times(n)?;
-    let v = words.word()?;
-    let k = words.word()?;
+    let [v, k] = words.array::<2>()?;
     Ok(same(&values, &timestamps, intercept, v, k) == Ok(true))
 }
 

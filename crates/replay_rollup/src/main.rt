@@ -74,7 +74,7 @@ struct Stored {
     rfa: RollupFuncArg,
     timestamps: Vec<i64>,
     values: Vec<u64>,
-    answers: Vec<u64>,
+    answers: [u64; ROLLUPS as usize],
     ghost paired: { length timestamps.items ≡ length values.items },
     ghost few: { length values.items ≤ 64 },
 }
@@ -90,7 +90,7 @@ impl Stored {
         let values = words.words(n)?;
         // It says for which rollups the stored answer is the port's own and not the Rust's.
         let _departs = words.word()?;
-        let answers = words.words(ROLLUPS as usize)?;
+        let answers = words.array()?;
         Ok(Stored {
             first,
             second,

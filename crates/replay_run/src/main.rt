@@ -70,11 +70,8 @@ impl Stored {
         let timestamps = words.times(n)?;
         let values = words.words(n)?;
         let rc = replay_settings::settings(words)?;
-        let window = words.word()?;
-        let reach = words.word()?;
-        let count = words.word()?;
-        // It says where the stored answer is the port's own and not the Rust's.
-        let _departs = words.word()?;
+        // The last of them says where the stored answer is the port's own and not the Rust's.
+        let [window, reach, count, _departs] = words.array::<4>()?;
         let points = words.count()?;
         let outcome = if points == 0 {
             Outcome::Refused {

@@ -85,12 +85,7 @@ fn same_times(listed: &[i64], start: i64, step: i64, n: u64) -> bool
     requires few { n ≤ 64 }
     requires on_grid { ((k : ℕ) → k < n → OnGrid start step k) }
 {
-    for k in 0..n {
-        if listed.get(k as usize) != Some(&times::grid::time_at(start, step, k)) {
-            return false;
-        }
-    }
-    true
+    (0..n).all(|k| listed.get(k as usize) == Some(&times::grid::time_at(start, step, k)))
 }
 
 // Whether the first and the last of a grid's n times are those that are listed.

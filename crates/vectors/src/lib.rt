@@ -11,7 +11,6 @@ ghost use Rattle.vectors.specs.Words.{body_of, digit_of, hex_of, word_at};
 
 use std::alloc::{AllocError, AllocFailed, Global};
 use std::array;
-use std::convert::identity;
 
 // The bytes of a word's digits.
 const DIGITS: usize = 16;
@@ -26,7 +25,6 @@ const MOST: u64 = 64;
 const LINE_END: u8 = b'\n';
 
 // Where the words begin: after the first line's end, or at the text's end where it has none.
-#[tactic(auto, using(crate::proofs::Words::line_ends))]
 pub fn body(text: &[u8]) -> usize
     ensures { result ≡ body_of text.now }
 {
@@ -47,7 +45,6 @@ pub fn word(text: &[u8], at: usize) -> u64
 }
 
 // The number that hexadecimal digits spell.
-#[tactic(auto, using(crate::proofs::Words::hex_folds))]
 pub fn hex(digits: &[u8]) -> u64
     ensures { result ≡ hex_of digits.now }
 {
@@ -91,6 +88,15 @@ pub fn numbers_at<const N: usize>(text: &[u8], at: usize) -> [i64; N]
     ensures { (k : ℕ) → k < N → get_or result k (pos 0) ≡ to_z w64 (word_at text.now (at + 17 * k)) }
 {
     array::from_fn(|k| signed(nth_word(text, at, k)))
+}
+
+// What `of` answers at each number below n.
+fn list_of<T: Drop, F: Fn(usize) -> T>(n: usize, of: F, alloc: Global) -> Result<Vec<T>, AllocError>
+    requires { F.IsAlwaysCallable of }
+    ensures size { IfOk result (λ xs. vec_len xs ≡ n) }
+    ensures by_index { IfOk result (λ xs. (k : ℕ) (d : T) → k < n → F.post of k (get_or xs.items k d)) }
+{
+    (0..n).map(|k| of(k)).collect(alloc)
 }
 
 // Why the next word of a list, or a case, is not read.
@@ -196,24 +202,6 @@ impl<'a> Cursor<'a> {
         Ok(n as usize)
     }
 
-    // The next n words, each as `of` has it.
-    fn list<T: Drop, F: Fn(u64) -> T>(&mut self, n: usize, of: F) -> Result<Vec<T>, Unread>
-        requires { F.IsAlwaysCallable of }
-        ensures kept { self.new.text.now ≡ self.old.text.now }
-        ensures moved { OnOk result (self.new.at ≡ self.old.at + 17 * n) }
-        ensures size { IfOk result (λ xs. vec_len xs ≡ n) }
-        ensures by_index { IfOk result (λ xs. (k : ℕ) (d : T) → k < n → F.post of (word_at self.old.text.now (self.old.at + 17 * k)) (get_or xs.items k d)) }
-        ensures end { IfErr result (λ e. e ≡ Malformed → length self.old.text.now < self.old.at + 17 * n) }
-    {
-        let at = self.pass(n)?;
-        let text = self.text;
-        Ok(
-            (0..n)
-                .map(|k| of(nth_word(text, at, k)))
-                .collect(self.alloc)?,
-        )
-    }
-
     // The next n words.
     pub fn words(&mut self, n: usize) -> Result<Vec<u64>, Unread>
         ensures kept { self.new.text.now ≡ self.old.text.now }
@@ -222,7 +210,9 @@ impl<'a> Cursor<'a> {
         ensures by_index { IfOk result (λ xs. (k : ℕ) → k < n → get_or xs.items k 0 ≡ word_at self.old.text.now (self.old.at + 17 * k)) }
         ensures end { IfErr result (λ e. e ≡ Malformed → length self.old.text.now < self.old.at + 17 * n) }
     {
-        self.list(n, identity)
+        let text = self.text;
+        let at = self.pass(n)?;
+        Ok(list_of(n, |k| nth_word(text, at, k), self.alloc)?)
     }
 
     // The same words as signed numbers.
@@ -233,7 +223,9 @@ impl<'a> Cursor<'a> {
         ensures by_index { IfOk result (λ xs. (k : ℕ) → k < n → get_or xs.items k (pos 0) ≡ to_z w64 (word_at self.old.text.now (self.old.at + 17 * k))) }
         ensures end { IfErr result (λ e. e ≡ Malformed → length self.old.text.now < self.old.at + 17 * n) }
     {
-        self.list(n, signed)
+        let text = self.text;
+        let at = self.pass(n)?;
+        Ok(list_of(n, |k| signed(nth_word(text, at, k)), self.alloc)?)
     }
 }
 
