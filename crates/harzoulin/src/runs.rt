@@ -65,9 +65,7 @@ pub fn harzoulin_run(
         samples_scanned_per_call,
     };
     let series = Series { timestamps, values };
-    let figures = run::run(
-        &series, named, handler, rc, dst_values, prepared, work,
-    );
+    let figures = run::run(&series, named, handler, rc, dst_values, prepared, work);
     answered(figures, count, index)
 }
 
@@ -104,8 +102,6 @@ pub fn harzoulin_settled_run(
         samples_scanned_per_call,
     };
     let series = Series { timestamps, values };
-    let figures = run::settled_run(
-        &series, named, handler, sc, dst_values, prepared, work,
-    );
+    let figures = run::settled_run(&series, named, handler, sc, dst_values, prepared, work);
     answered(figures, count, index)
 }

@@ -44,9 +44,7 @@ pub fn run(
         reach: settled.reach,
         samples_scanned_per_call: rc.samples_scanned_per_call,
     };
-    execute::execute_within(
-        &accepted, pre, handler, course, dst_values, prepared, work,
-    )
+    execute::execute_within(&accepted, pre, handler, course, dst_values, prepared, work)
 }
 
 // The number of samples counted, and the figures over the grid of sc, with the window and the reach that it is given.

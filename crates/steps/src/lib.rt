@@ -11,7 +11,6 @@ ghost use Rattle.series.specs.Rows.{time_inside};
 ghost use Rattle.steps.specs.Steps.{begun, compared, corrected, counted, counter_after, counter_after_once, grown, lifted, next, outputs_from, resets, resets_once, deltas, sloped, derivs, whole_seconds, intervals};
 
 pub use choice::step_of;
-
 use series::FiniteValues;
 
 // What is done to a series' values before they are rolled up.
