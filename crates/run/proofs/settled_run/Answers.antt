@@ -17,9 +17,6 @@ returns-in_err-check_series c =
     let p = err_from_is_err_and c.from_residual.result c.from_residual.ensures.1 in
     rw (p.1, p.2, ← c.check_series.ensures, c.in_err-check_series.was)
 
-pub invariant_of-accepted : goal.invariant_of-accepted
-invariant_of-accepted c = record { accepted = rw (← c.series.view_is) at (sym c.check_series.ensures ∙ c.in_ok-check_series.was) }
-
 pub returns-in_err-check_settled : goal.returns-in_err-check_settled
 unfolding settled_checked
 returns-in_err-check_settled c =

@@ -45,9 +45,6 @@ returns-then-indexes-n c =
     let n = rw held at c.count-n.ensures in
     rw (← n, lt-ltb _ _ c.if-indexes-n.true, ← finite_is c.args.limit, ← c.is_finite.ensures.value, c.if-not-is_finite.false, ← c.check_series.ensures, c.in_ok-check_series.was)
 
-pub list-requires : goal.list-requires
-list-requires c = length-take-le _ _ c.if-indexes-n.false ∙ c.count-n.ensures
-
 pub returns : goal.returns
 unfolding crossings_checked
 returns c =

@@ -27,9 +27,3 @@ loop-i-preserved c =
           let next : left limit vs i ≡ left limit vs (i + 1) = left_other limit vs i within (sym c.is_crossing.ensures ∙ w.if-is_crossing.false) in
           (omega (arith, w.n-is), omega (arith, w.n-is, inv.1, ap length next))
     ]
-
-pub returns : goal.returns
-returns c =
-    let loop = c.loop-i in
-    let counted = rw (left-none c.args.self.now.limit c.args.self.now.values.slice.now loop.i (omega arith)) at loop.invariant.1 in
-    omega arith

@@ -19,12 +19,6 @@ loop-i-init c =
     let whole = all_left c.args.self.now.limit c.args.self.now.values.slice.now in
     (omega (arith, c.requires, ap length whole), record { size = refl; parts = sym whole })
 
-pub returns-then-k-indexes : goal.returns-then-k-indexes
-returns-then-k-indexes c =
-    let inv = c.loop-i.invariant in
-    let all : length c.args.indexes.now ≤ c.loop-i.k = omega (arith, c.if-k-indexes.true, inv.1.size) in
-    done all (rw (none_left (left c.args.self.now.limit c.args.self.now.values.slice.now c.loop-i.i) (omega (arith, all, inv.0))) at inv.1)
-
 pub loop-i-preserved : goal.loop-i-preserved
 loop-i-preserved c =
     let limit = c.args.self.now.limit in
@@ -41,9 +35,3 @@ loop-i-preserved c =
           let next : left limit vs i ≡ left limit vs (i + 1) = left_other limit vs i within (sym c.is_crossing.ensures ∙ w.if-is_crossing.false) in
           (omega (arith, w.k-is, inv.0, ap length next), rw w.k-is (kept i (rw next at inv.1)))
     ]
-
-pub returns : goal.returns
-returns c =
-    let inv = c.loop-i.invariant in
-    let none = left-none c.args.self.now.limit c.args.self.now.values.slice.now c.loop-i.i (omega arith) in
-    done (omega (arith, inv.0, ap length none)) (rw none at inv.1)
