@@ -8,5 +8,5 @@ mod values;
 
 pub use checks::{MAX_READINGS, check_inside, check_series, check_times, is_inside};
 pub use refusal::Refusal;
-pub use slices::{AcceptedSeries, Series};
+pub use slices::{AcceptedSeries, AcceptedTimes, Series};
 pub use values::FiniteValues;
