@@ -2,13 +2,12 @@
 
 ghost use Rattle.std.specs.Prelude.{Ok, ◌≡◌};
 ghost use Rattle.series.specs.Answers.{reply, reply_of};
-ghost use Rattle.series.specs.Rows.{times_checked};
 ghost use Rattle.settings.specs.Rows.{settings_checked};
 ghost use Rattle.config.specs.Settle.{settlement, settle_of};
 
 use super::reach::WindowSettings;
 use super::{estimate, reach};
-use series::Refusal;
+use series::{AcceptedTimes, Refusal};
 use settings::RollupConfig;
 
 // The window, the reach and the number of output times.
@@ -20,11 +19,11 @@ pub struct Settlement {
 }
 
 // What accepted times and settings settle to.
-fn settle_accepted(timestamps: &[i64], rc: RollupConfig) -> Settlement
-    requires { (times_checked timestamps.now ≡ Ok tt) × (settings_checked rc ≡ Ok tt) }
-    ensures { result ≡ settlement timestamps.now rc }
+fn settle_accepted(times: &AcceptedTimes, rc: RollupConfig) -> Settlement
+    requires { settings_checked rc ≡ Ok tt }
+    ensures { result ≡ settlement times.now.slice.now rc }
 {
-    let scrape_interval = estimate::get_scrape_interval(timestamps);
+    let scrape_interval = estimate::get_scrape_interval(times);
     let max_prev_interval = reach::get_max_prev_interval(scrape_interval);
     let by = WindowSettings {
         window: rc.window as u64,
@@ -44,12 +43,11 @@ fn settle_accepted(timestamps: &[i64], rc: RollupConfig) -> Settlement
 }
 
 // The window, the reach and the number of output times, or the first of rows 6 to 11 that refuses.
-pub fn settle_settings(timestamps: &[i64], rc: RollupConfig) -> Result<Settlement, Refusal>
-    requires { times_checked timestamps.now ≡ Ok tt }
-    ensures { reply result ≡ reply_of (settings_checked rc) (settlement timestamps.now rc) }
+pub fn settle_settings(times: &AcceptedTimes, rc: RollupConfig) -> Result<Settlement, Refusal>
+    ensures { reply result ≡ reply_of (settings_checked rc) (settlement times.now.slice.now rc) }
 {
     settings::check_settings(rc)?;
-    Ok(settle_accepted(timestamps, rc))
+    Ok(settle_accepted(times, rc))
 }
 
 // The same, with rows 2 to 4 before.
@@ -57,5 +55,6 @@ pub fn settle(timestamps: &[i64], rc: RollupConfig) -> Result<Settlement, Refusa
     ensures { reply result ≡ settle_of timestamps.now rc }
 {
     series::check_times(timestamps)?;
-    settle_settings(timestamps, rc)
+    let times = AcceptedTimes { slice: timestamps };
+    settle_settings(&times, rc)
 }

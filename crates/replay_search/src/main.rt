@@ -6,7 +6,7 @@
 ghost use Rattle.std.specs.Prelude.{ℕ, ◌≤◌, ◌<◌};
 ghost use Rattle.times.specs.Grid.{OnGrid};
 
-use series::Refusal;
+use series::{AcceptedTimes, Refusal};
 use settings::RollupConfig;
 use std::io;
 use times::search::Times;
@@ -60,7 +60,8 @@ fn search(words: &mut Cursor) -> Result<bool, Unread> {
 // The estimate, of times that the table accepts.
 fn interval(timestamps: &[i64]) -> Result<u64, Refusal> {
     series::check_times(timestamps)?;
-    Ok(config::estimate::get_scrape_interval(timestamps))
+    let times = AcceptedTimes { slice: timestamps };
+    Ok(config::estimate::get_scrape_interval(&times))
 }
 
 // An estimate: the number of times and the times; then the interval.

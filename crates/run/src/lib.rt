@@ -15,8 +15,8 @@ use steps::PreFunction;
 
 mod execute;
 
-// The three slices are lent one by one. Of a struct that holds them by `&mut` these functions prove the same, but a caller that makes it of
-// its own slices is told what they hold afterwards only once it reads the struct again.
+// The three slices are lent one by one. Of a struct that holds them by `&mut` these functions prove the same, but what harzoulin promises of
+// its slices was not proved over such a struct.
 
 // The number of samples counted, and the figures over the grid of rc, with the window and the reach that the series and rc settle to.
 pub fn run(
@@ -35,7 +35,7 @@ pub fn run(
         timestamps: series.timestamps,
         values: series.values,
     };
-    let settled = settle_settings(accepted.timestamps, rc)?;
+    let settled = settle_settings(&accepted.times(), rc)?;
     let course = Course {
         start: rc.start,
         step: rc.step,

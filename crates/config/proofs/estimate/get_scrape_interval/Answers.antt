@@ -57,18 +57,18 @@ above (negsuc n) f e = absurd (false≢true (sym e))
 
 pub returns-then-timestamps-lt2 : goal.returns-then-timestamps-lt2
 unfolding estimate_of
-returns-then-timestamps-lt2 c = rw (lt-ltb (length c.args.timestamps.now) 2 (omega arith))
+returns-then-timestamps-lt2 c = rw (lt-ltb (length c.args.times.now.slice.now) 2 (omega arith))
 
 pub quantile_first-requires : goal.quantile_first-requires
 quantile_first-requires c =
     let n = c.first_intervals-n in
-    let ts = c.args.timestamps.now in
+    let ts = c.args.times.now.slice.now in
     record { n_in_bounds = omega (arith, few ts n.result n.ensures.count); sortable = rw n.ensures.front (whole_numbers (take 20 (distances ts))) }
 
 pub returns-then-scrape_interval-le0 : goal.returns-then-scrape_interval-le0
 unfolding estimate_of
 returns-then-scrape_interval-le0 c =
-    let ts = c.args.timestamps.now in
+    let ts = c.args.times.now.slice.now in
     let z = c.to_i64-scrape_interval in
     let q = c.quantile_first in
     rw
@@ -77,7 +77,7 @@ returns-then-scrape_interval-le0 c =
 pub returns : goal.returns
 unfolding estimate_of
 returns c =
-    let ts = c.args.timestamps.now in
+    let ts = c.args.times.now.slice.now in
     let z = c.to_i64-scrape_interval in
     let q = c.quantile_first in
     let fits = signed q.result z.ensures in

@@ -34,17 +34,17 @@ module _ (ts : List ℤ) (i : ℕ) (ok : times_checked ts ≡ Ok tt) (h : i + 1 
 
 pub overflow_sub-timestamps : goal.overflow_sub-timestamps
 overflow_sub-timestamps c =
-    let ts = c.args.timestamps.now in
+    let ts = c.args.times.now.slice.now in
     let i = c.args.i in
-    let ok = c.requires.0 in
-    let h = c.requires.1 in
+    let ok = c.args.times.now.accepted in
+    let h = c.requires in
     rw (to_z-of_z (second ts i ok h), to_z-of_z (first ts i ok h)) (distance ts i ok h)
 
 pub returns : goal.returns
 returns c =
-    let ts = c.args.timestamps.now in
+    let ts = c.args.times.now.slice.now in
     let i = c.args.i in
-    let ok = c.requires.0 in
-    let h = c.requires.1 in
+    let ok = c.args.times.now.accepted in
+    let h = c.requires in
     let same : get_or ts (i + 1) (pos 0) -ℤ get_or ts i (pos 0) ≡ get_or (distances ts) i (pos 0) = rw (add-one i) (sym (distance-at ts i (omega arith))) in
     (rw (to_z-of_z (second ts i ok h), to_z-of_z (first ts i ok h), to_z-of_z (distance ts i ok h)) at c.of_difference.ensures) ∙ ap (of_int binary64) same

@@ -53,44 +53,44 @@ module _ (ts : List ℤ) (rc : RollupConfig) (settings : settings_checked rc ≡
 
 pub get_max_prev_interval-max_prev_interval-requires : goal.get_max_prev_interval-max_prev_interval-requires
 get_max_prev_interval-max_prev_interval-requires c =
-    let ts = c.args.timestamps.now in
-    omega (arith, c.get_scrape_interval-scrape_interval.ensures, estimate-small ts (not-falling ts c.requires.0) (within ts c.requires.0))
+    let ts = c.args.times.now.slice.now in
+    omega (arith, c.get_scrape_interval-scrape_interval.ensures, estimate-small ts (not-falling ts c.args.times.now.accepted) (within ts c.args.times.now.accepted))
 
 pub overflow_cast-by-3 : goal.overflow_cast-by-3
-overflow_cast-by-3 c = castable (settings-passed c.args.rc c.requires.1).lookback
+overflow_cast-by-3 c = castable (settings-passed c.args.rc c.requires).lookback
 
 pub overflow_cast-by-4 : goal.overflow_cast-by-4
-overflow_cast-by-4 c = castable (settings-passed c.args.rc c.requires.1).staleness
+overflow_cast-by-4 c = castable (settings-passed c.args.rc c.requires).staleness
 
 pub overflow_cast-by : goal.overflow_cast-by
-overflow_cast-by c = castable (settings-passed c.args.rc c.requires.1).window
+overflow_cast-by c = castable (settings-passed c.args.rc c.requires).window
 
 pub overflow_cast-by-2 : goal.overflow_cast-by-2
-overflow_cast-by-2 c = castable (settings-passed c.args.rc c.requires.1).step
+overflow_cast-by-2 c = castable (settings-passed c.args.rc c.requires).step
 
 pub overflow_cast-result : goal.overflow_cast-result
 overflow_cast-result c =
-    let ts = c.args.timestamps.now in
+    let ts = c.args.times.now.slice.now in
     let rc = c.args.rc in
-    let ok = c.requires.1 in
+    let ok = c.requires in
     let r = reach-is ts rc ok c.get_scrape_interval-scrape_interval.ensures c.get_max_prev_interval-max_prev_interval.ensures c.bounded_reach-far.ensures in
-    window-fits ts rc ok c.requires.0 (window-is ts rc ok r c.adjusted_window-window.ensures)
+    window-fits ts rc ok c.args.times.now.accepted (window-is ts rc ok r c.adjusted_window-window.ensures)
 
 pub overflow_cast-result-2 : goal.overflow_cast-result-2
 overflow_cast-result-2 c =
-    let ts = c.args.timestamps.now in
+    let ts = c.args.times.now.slice.now in
     let rc = c.args.rc in
-    let ok = c.requires.1 in
-    reach-fits ts rc ok c.requires.0 (reach-is ts rc ok c.get_scrape_interval-scrape_interval.ensures c.get_max_prev_interval-max_prev_interval.ensures c.bounded_reach-far.ensures)
+    let ok = c.requires in
+    reach-fits ts rc ok c.args.times.now.accepted (reach-is ts rc ok c.get_scrape_interval-scrape_interval.ensures c.get_max_prev_interval-max_prev_interval.ensures c.bounded_reach-far.ensures)
 
 pub points-requires : goal.points-requires
-points-requires c = spans c.args.timestamps.now c.args.rc c.requires.1
+points-requires c = spans c.args.times.now.slice.now c.args.rc c.requires
 
 pub returns : goal.returns
 returns c =
-    let ts = c.args.timestamps.now in
+    let ts = c.args.times.now.slice.now in
     let rc = c.args.rc in
-    let ok = c.requires.1 in
+    let ok = c.requires in
     let r = reach-is ts rc ok c.get_scrape_interval-scrape_interval.ensures c.get_max_prev_interval-max_prev_interval.ensures c.bounded_reach-far.ensures in
     let w = window-is ts rc ok r c.adjusted_window-window.ensures in
-    cc (to_z-of_z (window-fits ts rc ok c.requires.0 w), to_z-of_z (reach-fits ts rc ok c.requires.0 r), w, r, points-are ts rc ok c.points.ensures)
+    cc (to_z-of_z (window-fits ts rc ok c.args.times.now.accepted w), to_z-of_z (reach-fits ts rc ok c.args.times.now.accepted r), w, r, points-are ts rc ok c.points.ensures)
