@@ -3,8 +3,8 @@
 ghost use Rattle.std.specs.Prelude.{◌≡◌, ◌<◌, ◌^◌};
 ghost use Rattle.config.specs.Reach.{reach_of, capped_by, bounded_reach, raised_step, window_of};
 
-// The reach of an estimate. A match over ranges would name each bound twice. A short interval is raised more, which hides gaps where readings come unevenly. A part of a long one is what
-// a shift leaves: a division is dear where many series are settled, and none stands in the reach.
+// The reach of an estimate. A short interval is raised more, which hides gaps where readings come unevenly. A part of a long one is what a shift
+// leaves: a division is dear where many series are settled, and none stands in the reach. A match over ranges would name each bound twice.
 pub fn get_max_prev_interval(scrape_interval: u64) -> u64
     requires { scrape_interval < 2 ^ 63 }
     ensures { result ≡ reach_of scrape_interval }

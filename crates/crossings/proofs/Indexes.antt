@@ -36,10 +36,6 @@ module _ (limit : Float) (vs : List ℕ) where
   pub left-none : (i : ℕ) → length vs ≤ i → left i ≡ []
   left-none i h = let e : length vs - i ≡ 0 = omega arith in rw e
 
-  -- where some are left, so is their index
-  pub left-some : (i : ℕ) → 0 < length (left i) → i < length vs
-  left-some i h = by-test (ltb i (length vs)) (λ e. ltb-true _ _ e) (λ e. absurd (omega (arith, rw (left-none i (ltb-false _ _ e)) at h)))
-
 -- ---- the indexes rise
 
 module _ (p : ℕ → Bool) where

@@ -22,7 +22,8 @@ fn check_asked(timestamps: &[i64], time: i64) -> Result<(), Refusal>
     Err(Refusal::TimeOutside(0))
 }
 
-// Whether the later of two times around the asked one is nearer to it.
+// Whether the later of two times around the asked one is nearer to it. They are plain numbers: a type of times within the limit would be made
+// of each for this one test.
 fn is_later_nearer(time: i64, earlier: i64, later: i64) -> bool
     requires { (Within time_limit time) × (Within time_limit earlier) × (Within time_limit later) × (le_z earlier time ≡ true) × (le_z time later ≡ true) }
     ensures { result ≡ ltb (distance time later) (distance time earlier) }

@@ -1,4 +1,4 @@
-// One series from two logs of the same readings.
+// One series from two logs of the same readings. The two stay two parameters: what is said of them is said of each by itself.
 #![tactic(auto)]
 
 mod call;

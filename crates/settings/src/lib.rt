@@ -10,7 +10,8 @@ ghost use Rattle.settings.specs.Rows.{outside, span_outside, setting_outside, ov
 use series::Refusal;
 use times::TIME_LIMIT;
 
-// Times and lengths of time are milliseconds. A window of 0 stands for the step.
+// Times and lengths of time are milliseconds. As C hands them in, a window of 0 stands for the step, a lookback
+// delta or a number of points of 0 for no limit, and a per-call number of 0 for all of a window.
 #[derive(Clone, Copy)]
 pub struct RollupConfig {
     pub start: i64,

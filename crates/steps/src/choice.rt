@@ -5,7 +5,7 @@ ghost use Rattle.steps.specs.Choice.{step_of};
 
 use crate::PreFunction;
 
-// The step with a number, where one has it. C hands a step in as its number.
+// The step with a number, where one has it. C hands a step in as its number; no `TryFrom`, since a number that names no step is no error here.
 pub fn step_of(pre: u32) -> Option<PreFunction>
     ensures { result ≡ step_of pre }
 {

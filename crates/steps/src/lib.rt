@@ -8,7 +8,7 @@ ghost use Rattle.ieee.specs.Patterns.{floats, patterns};
 ghost use Rattle.times.specs.Milli.{time_limit, Within};
 ghost use Rattle.times.specs.Leading.{leading};
 ghost use Rattle.series.specs.Rows.{time_inside};
-ghost use Rattle.steps.specs.Steps.{begun, compared, corrected, counted, counter_after, counter_after_once, grown, lifted, next, outputs_from, resets, resets_once, deltas, sloped, derivs, whole_seconds, intervals};
+ghost use Rattle.steps.specs.Steps.{begun, compared, corrected, counted, counter_after, counter_after_once, grown, next, outputs_from, resets, resets_once, deltas, sloped, derivs, whole_seconds, intervals};
 
 pub use choice::step_of;
 use series::FiniteValues;
@@ -67,13 +67,6 @@ fn correction_without_jumps(c: f64, p: f64, v: f64) -> f64
     c + more
 }
 
-// v, or p where v is below it.
-fn raised(p: f64, v: f64) -> f64
-    ensures { result ≡ lifted p v }
-{
-    if v < p { p } else { v }
-}
-
 impl Counter {
     // The state before the first value. Nothing lies below -infinity, so that value is no reset.
     pub fn new() -> Counter
@@ -93,7 +86,7 @@ impl Counter {
         Counter {
             correction,
             value: v,
-            output: raised(self.output, v + correction),
+            output: order::greater(self.output, v + correction),
         }
     }
 
@@ -144,7 +137,9 @@ impl CounterStep for CorrectedOnce {
     }
 }
 
-// Each value's output under a counter step.
+// Each value's output under a counter step. As in the other steps the value at an index is read and its place written: one index is plainer
+// than `zip` and `iter_mut` with what is known of the values beside them. The slice that is written has the length of the one that is read, which
+// each clause asks: a struct of both would hold a `&mut`, as in run.
 fn correct<S: CounterStep>(values: &FiniteValues, prepared: &mut [u64])
     requires { length prepared.old ≡ length values.now.slice.now }
     ensures { prepared.new ≡ patterns (outputs_from (next S.again) begun (floats values.now.slice.now)) }

@@ -1,8 +1,12 @@
--- `steps::Counter::corrected` meets its contract: the output is the callee's answer.
+-- `steps::Counter::corrected` meets its contract: the output is the greater one of the value and the output before.
 -- Assumes nothing.
-use Rattle.steps.specs.Steps.{corrected}
+use lib.Ieee.{binary64, add, lt}
+use Rattle.ieee.proofs.Tests.{by-test}
+use Rattle.steps.specs.Steps.{corrected, lifted}
 use Rattle.steps.proofs.Counter.corrected.Goals as goal
 
 pub returns : goal.returns
-unfolding corrected
-returns c = rw c.raised.ensures
+unfolding corrected lifted
+returns c =
+    rw c.greater.ensures
+    (by-test (lt (add binary64 c.args.v c.args.correction) c.args.self.output) (λ e. rw e) (λ e. rw e))
