@@ -1,20 +1,16 @@
 -- The rows of a call that asks for a time: rows 2 to 4 of the readings decide, but for an asked time outside the limits, which comes before row 4.
 -- Assumes nothing.
-use Prim.Native.Nat.{ℕ, ◌≤◌, ◌<◌}
-use mathlib.Core.Bool.{Bool, true, false, not}
+use Prim.Native.Nat.{ℕ}
+use mathlib.Core.Bool.{true, false, not}
 use mathlib.Core.List.{List, [], ◌∷◌}
-use mathlib.Core.Path.{◌≡◌, refl, sym, ap, ◌∙◌}
+use mathlib.Core.Path.{◌≡◌, refl, ◌∙◌}
 use native.Mathlib.Omega.{arith}
 use borrow.Author.Tests.{not-false}
-use lib.Dec.{ltb}
 use lib.IntN.{ℤ}
-use lib.ListN.{length}
-use Rattle.times.specs.Leading.{leading, leading_run}
-use Rattle.series.specs.Answers.{reply}
-use Rattle.series.specs.Refusals.{first_refusal, refused_if, number_and_index}
-use Rattle.series.specs.Rows.{max_readings, rises, row2, row3, row4, inside_checked, time_inside, times_checked}
+use Rattle.series.specs.Refusals.{first_refusal}
+use Rattle.series.specs.Rows.{row2, row3, row4, inside_checked, time_inside, times_checked}
 use Rattle.series.specs.declared.refusal.Refusal.{Refusal}
-use Rattle.series.specs.declared.refusal.Refusal.TheVariants.{TooManyReadings, TimeOutside, TimeNotAbove}
+use Rattle.series.specs.declared.refusal.Refusal.TheVariants.{TimeOutside}
 use Rattle.series.specs.Refusals.{Checked}
 use Rattle.std.specs.Prelude.{Ok, Err}
 use Rattle.series.proofs.Accepted.{all-accept, fails}

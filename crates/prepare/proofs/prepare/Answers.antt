@@ -1,7 +1,7 @@
 -- `prepare::prepare` meets its contract. A refusal is the first row that refuses, and nothing is written; else the step writes the leading part, and the rest is as it was.
 -- Assumes nothing.
 use Prim.Native.Nat.{ℕ}
-use mathlib.Core.Path.{sym, ap, ◌∙◌}
+use mathlib.Core.Path.{ap}
 use mathlib.Core.List.{List, ◌++◌}
 use borrow.Author.Tests.{lt-ltb, le-ltb}
 use lib.ListN.{length, drop}

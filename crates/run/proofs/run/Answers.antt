@@ -1,6 +1,6 @@
 -- `run::run` meets its contract: the rows come in the table's order, a refusal touches no slice, and what no row refuses is executed.
 -- Assumes nothing.
-use Rattle.std.proofs.Common.{◌≡◌, ℕ, List, [], ◌∷◌, ℤ, length, sym, ap, ◌∙◌, w64, to_z, of_z, to_z-of_z}
+use Rattle.std.proofs.Common.{◌≡◌, List, [], ◌∷◌, ℤ, length, sym, ap, ◌∙◌, w64, to_z, of_z, to_z-of_z}
 use Rattle.settings.specs.Rows.{settings_checked}
 use Rattle.settings.specs.declared.RollupConfig.{RollupConfig}
 use Rattle.settings.specs.Course.{course}

@@ -9,7 +9,6 @@ use lib.Ieee.{Float, nan, inf, fin}
 use lib.Ieee.Scale.{finite}
 use lib.ListN.{drop}
 use Rattle.std.specs.Float.{float_is_finite}
-use lib.Seq.{length-take-le}
 use Rattle.std.proofs.lemmas.Result.{err_from_is_err_and}
 use Rattle.series.proofs.Accepted.{accepted-series}
 use Rattle.series.specs.Answers.{gives, outcome}

@@ -5,7 +5,7 @@ use mathlib.Core.List.{◌∷◌}
 use mathlib.Core.Path.{◌≡◌, sym, ap, ◌∙◌}
 use native.Mathlib.Omega.{arith}
 use lib.ListN.{length}
-use Rattle.crossings.proofs.Indexes.{left, all_left, left-crossing, left_other, left-none}
+use Rattle.crossings.proofs.Indexes.{left, all_left, left-crossing, left_other}
 use Rattle.crossings.proofs.listed.Sides.count.Goals as goal
 use Rattle.crossings.proofs.listed.Sides.count.Goals.{then-is_crossing, else-is_crossing}
 

@@ -1,12 +1,12 @@
 -- `crossings::listed::Sides::list` meets its contract. Before each turn the indexes of k crossings are written, and those from i on are to be written yet.
 -- Assumes nothing.
-use Prim.Native.Nat.{ℕ, ◌+◌, ◌≤◌, ◌<◌}
+use Prim.Native.Nat.{ℕ, ◌+◌, ◌<◌}
 use mathlib.Core.List.{List, [], ◌∷◌}
 use mathlib.Core.Path.{◌≡◌, refl, sym, ap, ◌∙◌}
 use native.Mathlib.Omega.{arith}
 use lib.ListN.{length}
-use Rattle.times.proofs.Written.{done, kept, turn}
-use Rattle.crossings.proofs.Indexes.{left, all_left, left-crossing, left_other, left-none}
+use Rattle.times.proofs.Written.{kept, turn}
+use Rattle.crossings.proofs.Indexes.{left, all_left, left-crossing, left_other}
 use Rattle.crossings.proofs.listed.Sides.list.Goals as goal
 use Rattle.crossings.proofs.listed.Sides.list.Goals.{then-is_crossing, else-is_crossing}
 
