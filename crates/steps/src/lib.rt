@@ -74,8 +74,8 @@ impl Counter {
     {
         Counter {
             correction: 0.0,
-            value: -1.0 / 0.0,
-            output: -1.0 / 0.0,
+            value: f64::NEG_INFINITY,
+            output: f64::NEG_INFINITY,
         }
     }
 
