@@ -100,6 +100,13 @@ abbrev some? : {A : Type 0} → Option A → Bool
 some? none = false
 some? (some x) = true
 
+-- a time is told from the 0 that stands for none by whether there is a reading
+told-next : (x y : Option Reading) → some? x ≡ some? y → get_or (time_of x) (pos 0) ≡ get_or (time_of y) (pos 0) → time_of x ≡ time_of y
+told-next none none e h = refl
+told-next none (some y) e h = cc
+told-next (some x) none e h = cc
+told-next (some x) (some y) e h = ap some h
+
 -- ---- a reading is later than t − w exactly when it is in the window or after t
 
 later-is : (w t : ℤ) (x : Reading) → le_z (pos 0) w ≡ true → after (t -ℤ w) x ≡ inside w t x || after t x
