@@ -82,13 +82,6 @@ impl Reading for FiniteValues {
     }
 }
 
-// Whether x is known to be finite.
-fn is_finite(x: f64) -> bool
-    ensures { result ≡ true → finite x ≡ true }
-{
-    x - x == 0.0
-}
-
 // Whether the step from prev_value to v counts as a change.
 fn is_change(prev_value: f64, v: f64) -> bool
     ensures { result ≡ is_change prev_value v }
@@ -186,10 +179,8 @@ fn count_steps_read<R: Reading>(down: bool, prev_value: f64, values: &[u64]) -> 
 fn count_steps(down: bool, prev_value: f64, values: &[u64]) -> f64
     ensures { result ≡ steps_from down prev_value (floats values.now) }
 {
-    if is_finite(prev_value) {
-        if are_finite(values) {
-            return count_steps_read::<FiniteValues>(down, prev_value, values);
-        }
+    if prev_value.is_finite() && are_finite(values) {
+        return count_steps_read::<FiniteValues>(down, prev_value, values);
     }
     count_steps_read::<AnyValues>(down, prev_value, values)
 }

@@ -7,7 +7,7 @@ ghost use Rattle.math.specs.Mode.{mode_of};
 ghost use Rattle.quantile.specs.Quantile.{mad_of, median_of};
 ghost use Rattle.ieee.specs.Patterns.{floats};
 ghost use Rattle.window.specs.Window.{beyond, first_of, further, last_of};
-ghost use Rattle.value_rollups.specs.RollupFns.{absent_of, avg_of, count_of, distinct_from, distinct_of, max_of, min_of, no_lesser, present_of, range_of, rate_over_sum_of, sum2_of, sum_of, total_of};
+ghost use Rattle.value_rollups.specs.RollupFns.{absent_of, avg_of, count_of, distinct_from, distinct_of, max_of, min_of, present_of, range_of, rate_over_sum_of, sum2_of, sum_of, total_of};
 
 use ieee::nan;
 use window::types::{RollupFuncArg, first, last, rest};
@@ -62,20 +62,13 @@ pub fn rollup_min(rfa: RollupFuncArg, values: &[u64]) -> f64
     extreme(true, first(values), values)
 }
 
-// The greater of two, v where they are equal.
-fn no_lesser(m: f64, v: f64) -> f64
-    ensures { result ≡ no_lesser m v }
-{
-    if v < m { m } else { v }
-}
-
 // The greatest value, the last of equals.
 pub fn rollup_max(rfa: RollupFuncArg, values: &[u64]) -> f64
     ensures { result ≡ max_of (floats values.now) }
 {
     match values.split_first() {
         Some((first, rest)) => rest.iter().fold(ieee::value_of(*first), |max_value, b| {
-            no_lesser(max_value, ieee::value_of(*b))
+            order::greater(max_value, ieee::value_of(*b))
         }),
         None => nan(),
     }
