@@ -1,12 +1,13 @@
 // The window record that every rollup is handed, and how a rollup reads the window beside it.
 
-ghost use Rattle.std.specs.Prelude.{cond, true, ◌≡◌, ◌+◌, ◌-◌, ◌≤◌, ◌<◌, ◌^◌, drop, get_or, length, take, nat_abs, ◌-ℤ◌};
+ghost use Rattle.std.specs.Prelude.{Bool, cond, true, ◌≡◌, ◌+◌, ◌-◌, ◌≤◌, ◌<◌, ◌^◌, drop, get_or, length, take, nat_abs, ◌-ℤ◌};
 ghost use Rattle.std.specs.Int.Signed.{lt_z};
 ghost use Rattle.std.specs.Float.{binary64};
 ghost use Rattle.std.specs.Float.Ieee.{is_nan, of_bits};
 ghost use Rattle.ieee.specs.Patterns.{floats};
 ghost use Rattle.ieee.specs.Value.{seconds_of};
 ghost use Rattle.window.specs.Types.{AllFinite};
+ghost use Rattle.window.specs.Tests.{Tests};
 ghost use Rattle.window.specs.Window.{first_of, first_or, last_of, last_or, up_to_last};
 
 #[derive(Clone, Copy)]
@@ -136,14 +137,22 @@ pub fn is_before(a: i64, b: i64) -> bool
     a < b
 }
 
+// How many items stand up to the last one that passes.
+pub fn up_to_last<T, P: Fn(&T) -> bool>(xs: &[T], passes: P) -> usize
+    requires { P.IsAlwaysCallable passes }
+    ensures { (p : T → Bool) → Tests (P.post passes) p → result ≡ up_to_last p xs.now }
+{
+    match xs.iter().rposition(|x| passes(x)) {
+        Some(i) => i + 1,
+        None => 0,
+    }
+}
+
 // How many readings stand up to the last one whose time is below t.
 pub fn count_up_to(timestamps: &[i64], t: i64) -> usize
     ensures { result ≡ up_to_last (λ s. lt_z s t) timestamps.now }
 {
-    match timestamps.iter().rposition(|s| *s < t) {
-        Some(i) => i + 1,
-        None => 0,
-    }
+    up_to_last(timestamps, |s| *s < t)
 }
 
 // The seconds from one time to another.
