@@ -1,2 +1,3 @@
 pub mod Candles
+pub mod Ends
 pub mod Pairs

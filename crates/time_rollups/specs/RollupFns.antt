@@ -2,7 +2,7 @@
 -- predecessor's value, NaN where there is none, `xs` the window's values and `ts` its times.
 -- Assumes nothing.
 use mathlib.Core.List.{List, foldl}
-use Rattle.std.specs.Prelude.{Bool, true, false, cond, ◌&&◌, ◌||◌, ℕ, ◌-◌, ltb, eqb, length, take, get_or, ℤ, pos, ◌-ℤ◌, Float}
+use Rattle.std.specs.Prelude.{Option, Some, None, Bool, true, false, cond, ◌&&◌, ◌||◌, ℕ, ◌-◌, ltb, eqb, length, take, get_or, ℤ, pos, ◌-ℤ◌, Float}
 use Rattle.std.specs.Float.{nan, binary64}
 use Rattle.std.specs.Float.Ieee.{add, sub, mul, div, lt, le, eq, ne, is_nan}
 use Rattle.math.specs.Deviation.{stddev_of}
@@ -32,6 +32,11 @@ tmin_of xs ts = extreme_time true xs ts
 -- the last time of the maximum
 abbrev pub tmax_of : List Float → List ℤ → Float
 tmax_of xs ts = extreme_time false xs ts
+
+-- a time in seconds, NaN where there is none
+abbrev pub seconds_or_nan : Option ℤ → Float
+seconds_or_nan (Some t) = seconds_of t
+seconds_or_nan None = nan
 
 -- the first time, in seconds
 unfoldable pub tfirst_of : List ℤ → Float

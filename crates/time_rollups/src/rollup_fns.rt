@@ -5,13 +5,13 @@ ghost use Rattle.std.specs.Float.Ieee.{ne};
 ghost use Rattle.math.specs.Deviation.{stddev_of};
 ghost use Rattle.ieee.specs.Patterns.{floats};
 ghost use Rattle.window.specs.Window.{up_to_last};
-ghost use Rattle.time_rollups.specs.RollupFns.{at_least, changed_up_to, extreme_time, lag_of, lifetime_of, predict_from, predict_linear_of, scrape_interval_of, tfirst_of, tlast_change_of, tlast_of, tmax_of, tmin_of, zscore_from, zscore_over_time_of};
+ghost use Rattle.time_rollups.specs.RollupFns.{at_least, changed_up_to, extreme_time, lag_of, lifetime_of, predict_from, predict_linear_of, scrape_interval_of, seconds_or_nan, tfirst_of, tlast_change_of, tlast_of, tmax_of, tmin_of, zscore_from, zscore_over_time_of};
 
 use crate::ranged::RangedWindow;
 use ieee::nan;
 use regression::Line;
 use value_rollups::rollup_fns::rollup_avg;
-use window::types::{RollupFuncArg, first, first_or, init, last, last_or, seconds_between};
+use window::types::{RollupFuncArg, first, first_or, init, last, last_or, seconds_between, up_to_last};
 
 // Whether v is no less than m, or, where the way is down, no greater.
 fn reaches(down: bool, m: f64, v: f64) -> bool
@@ -53,34 +53,35 @@ pub fn rollup_tmax(rfa: RollupFuncArg, values: &[u64], timestamps: &[i64]) -> f6
     extreme_time(false, values, timestamps)
 }
 
+// A time in seconds, NaN where there is none.
+fn seconds_or_nan(time: Option<i64>) -> f64
+    ensures { result ≡ seconds_or_nan time }
+{
+    match time {
+        Some(t) => ieee::seconds(t),
+        None => nan(),
+    }
+}
+
 // The first time, in seconds.
 pub fn rollup_tfirst(rfa: RollupFuncArg, timestamps: &[i64]) -> f64
     ensures { result ≡ tfirst_of timestamps.now }
 {
-    if timestamps.len() == 0 {
-        return nan();
-    }
-    ieee::seconds(first_or(timestamps, 0))
+    seconds_or_nan(timestamps.first().copied())
 }
 
 // The last time, in seconds.
 pub fn rollup_tlast(rfa: RollupFuncArg, timestamps: &[i64]) -> f64
     ensures { result ≡ tlast_of timestamps.now }
 {
-    if timestamps.len() == 0 {
-        return nan();
-    }
-    ieee::seconds(last_or(timestamps, 0))
+    seconds_or_nan(timestamps.last().copied())
 }
 
 // How many values stand up to the last one that differs from x.
 fn differing_up_to(values: &[u64], x: f64) -> usize
     ensures { result ≡ up_to_last (λ v. ne v x) (floats values.now) }
 {
-    match values.iter().rposition(|b| ieee::value_of(*b) != x) {
-        Some(i) => i + 1,
-        None => 0,
-    }
+    up_to_last(values, |b| ieee::value_of(*b) != x)
 }
 
 // How many values stand up to the last one that differs from the window's last value.
