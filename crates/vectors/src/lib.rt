@@ -19,7 +19,7 @@ const DIGITS: usize = 16;
 const STEP: usize = 17;
 
 // The most readings that a case has.
-const MOST: u64 = 64;
+pub const MOST: usize = 64;
 
 // What ends a line.
 const LINE_END: u8 = b'\n';
@@ -33,7 +33,8 @@ pub fn body(text: &[u8]) -> usize
         .map_or(text.len(), |i| i + 1)
 }
 
-// The word whose digits begin at a byte, and 0 where the text ends before its sixteenth digit.
+// The word whose digits begin at a byte, and 0 where the text ends before its sixteenth digit. This and the three functions
+// below that read a text at a byte stand apart from `Cursor`, whose methods can fail.
 pub fn word(text: &[u8], at: usize) -> u64
     ensures { result ≡ word_at text.now at }
 {
@@ -96,6 +97,7 @@ fn list_of<T: Drop, F: Fn(usize) -> T>(n: usize, of: F, alloc: Global) -> Result
     ensures size { IfOk result (λ xs. vec_len xs ≡ n) }
     ensures by_index { IfOk result (λ xs. (k : ℕ) (d : T) → k < n → F.post of k (get_or xs.items k d)) }
 {
+    // Of `map(of)` the check does not find that `of` may be called for each number.
     (0..n).map(|k| of(k)).collect(alloc)
 }
 
@@ -196,7 +198,7 @@ impl<'a> Cursor<'a> {
         ensures end { OnErr result ((length self.old.text.now < self.old.at + 17) ⊎ (64 < word_at self.old.text.now self.old.at)) }
     {
         let n = self.word()?;
-        if n > MOST {
+        if n > MOST as u64 {
             return Err(Unread::Malformed);
         }
         Ok(n as usize)
