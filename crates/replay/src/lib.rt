@@ -3,7 +3,7 @@
 // one case.
 #![tactic(auto)]
 
-ghost use Rattle.std.specs.Prelude.{IfOk, IfSome, OnOk, None, cond, ◌≡◌, ◌+◌, ◌*◌, ◌^◌, ◌≤◌, ◌<◌, eqb, drop, length, take, List, Option};
+ghost use Rattle.std.specs.Prelude.{IfOk, IfSome, None, cond, ◌≡◌, ◌^◌, ◌≤◌, ◌<◌, eqb, drop, length, take, List, Option};
 ghost use Rattle.replay.specs.Replayed.{Replayed};
 ghost use Rattle.replay.specs.Tally.{After, Counted, begun, differed, passed};
 ghost use Rattle.vectors.specs.Words.{body_of};
@@ -31,8 +31,7 @@ pub struct Case {
     pub same: bool,
 }
 
-// A test's outcome as it is stored. It stands beside `u64::from`: its clause says how the lists write a test, which no
-// clause of the programs that call it does.
+// A test's outcome as it is stored. The lists write a test as 1 or 0.
 pub fn flag(b: bool) -> u64
     ensures { result ≡ cond b 1 0 }
 {
