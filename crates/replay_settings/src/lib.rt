@@ -46,6 +46,8 @@ pub fn settings_at(text: &[u8], at: usize) -> RollupConfig
 }
 
 // The settings that the next ten words are.
+// `settlement` takes its words in the same way. One function for both would be handed the number of words and a closure, and
+// would say its four clauses of what the closure gives.
 pub fn settings(words: &mut Cursor) -> Result<RollupConfig, Unread>
     ensures kept { words.new.text.now ≡ words.old.text.now }
     ensures words { IfOk result (StoredSettings words.old.text.now words.old.at) }
