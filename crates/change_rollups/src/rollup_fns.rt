@@ -1,4 +1,6 @@
 // The rollups of rollup_fns.rs that go from value to value. Each answers NaN for a window that does not settle it.
+// The record and the values come apart, as in the Rust: no rollup here needs anything of the two together, as those of a `RangedWindow` do
+// (docs/DECISIONS.md, "Every rollup takes the window record").
 
 ghost use Rattle.std.specs.Prelude.{Float, List, ℕ, ⊤, ◌&&◌, not, true, ◌≡◌, ◌<◌, ◌≤◌, get_or, length};
 ghost use Rattle.std.specs.Float.{binary64};
@@ -124,10 +126,8 @@ pub fn rollup_changes(rfa: RollupFuncArg, values: &[u64]) -> f64
     ensures { result ≡ changes_of rfa.prev_value (floats values.now) }
 {
     let alone = ieee::is_nan(rfa.prev_value);
-    if alone {
-        if values.len() == 0 {
-            return nan();
-        }
+    if alone && values.len() == 0 {
+        return nan();
     }
     let n = count_changes(
         seed(rfa.prev_value, values),
@@ -191,10 +191,8 @@ fn seeded<F: FnOnce(f64, &[u64]) -> f64>(prev_value: f64, values: &[u64], f: F) 
     requires { F.IsAlwaysCallable f }
     ensures { (g : Float → List Float → Float) → Computes (F.post f) g → result ≡ seeded g prev_value (floats values.now) }
 {
-    if ieee::is_nan(prev_value) {
-        if values.len() == 0 {
-            return nan();
-        }
+    if ieee::is_nan(prev_value) && values.len() == 0 {
+        return nan();
     }
     // One call, so that a loop in f stands once in the compiled code.
     f(seed(prev_value, values), after_seed(prev_value, values))

@@ -169,7 +169,8 @@ pub fn eval(
     ieee::bits_of(figure(handler, rfa, values, timestamps, &mut work[..m]))
 }
 
-// How many samples a call of the rollup is taken to scan; 0 stands for all of its window.
+// How many samples a call of the rollup is taken to scan; 0 stands for all of its window, as in the number that C
+// hands in.
 pub fn rollup_samples_scanned_per_call(handler: RollupHandler) -> usize
     ensures { result ≡ scanned_per_call handler }
 {

@@ -8,7 +8,7 @@ use lib.ListN.{length}
 use lib.IntN.{ℤ, pos}
 use Rattle.std.specs.List.{slice_get}
 use Rattle.std.proofs.lemmas.Option.{slice_get-get_or}
-use Rattle.window.specs.Window.{is_empty, first_or, last_or}
+use Rattle.window.specs.Window.{is_empty, first_or}
 use Rattle.window.proofs.Window.{last-at}
 use Rattle.time_rollups.specs.RollupFns.{seconds_or_nan, tfirst_of, tlast_of}
 

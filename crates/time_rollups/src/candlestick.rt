@@ -10,7 +10,7 @@ use ieee::nan;
 use value_rollups::rollup_fns::extreme;
 use window::types::{RollupFuncArg, after_seed, count_up_to, is_before, last, prefix, seed};
 
-// The values before the last reading whose time is below the output time.
+// The values before the last reading whose time is below the output time. Not of a `RangedWindow`: it asks for no range.
 #[tactic(auto, unfolding(crate::specs::Candlestick::candlestick))]
 pub fn get_candlestick_values<'a, 'b>(
     rfa: RollupFuncArg,

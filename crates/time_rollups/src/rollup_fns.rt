@@ -11,7 +11,9 @@ use crate::ranged::RangedWindow;
 use ieee::nan;
 use regression::Line;
 use value_rollups::rollup_fns::rollup_avg;
-use window::types::{RollupFuncArg, first, first_or, init, last, last_or, seconds_between, up_to_last};
+use window::types::{
+    RollupFuncArg, first, first_or, init, last, last_or, seconds_between, up_to_last,
+};
 
 // Whether v is no less than m, or, where the way is down, no greater.
 fn reaches(down: bool, m: f64, v: f64) -> bool
@@ -38,6 +40,8 @@ fn extreme_time(down: bool, values: &[u64], timestamps: &[i64]) -> f64
     }
     ieee::seconds(time)
 }
+
+// `rollup_tmin`, `rollup_tmax`, `rollup_tfirst`, `rollup_tlast` and `rollup_tlast_change` are not of a `RangedWindow`: they ask for no range.
 
 // The last time of the minimum, in seconds.
 pub fn rollup_tmin(rfa: RollupFuncArg, values: &[u64], timestamps: &[i64]) -> f64

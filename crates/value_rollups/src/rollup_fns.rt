@@ -1,4 +1,6 @@
 // The rollups of rollup_fns.rs that answer from a window's values. Each answers NaN for a window that does not settle it.
+// The record and the values come apart, as in the Rust: no rollup here needs anything of the two together, as those of a `RangedWindow` do
+// (docs/DECISIONS.md, "Every rollup takes the window record").
 
 ghost use mathlib.Core.List.{foldl};
 ghost use Rattle.std.specs.Prelude.{◌≡◌, ◌*◌, ◌≤◌, ◌<◌, length};
@@ -29,7 +31,8 @@ pub fn rollup_avg(rfa: RollupFuncArg, values: &[u64]) -> f64
 }
 
 // Whether v lies beyond m: below it where the way is down, else above it.
-// `down` is an argument and no const parameter, which the checker does not take in the closure of a fold.
+// `down` is an argument: the checker does not take a const parameter in the closure of a fold, and a trait for the way, as `Reading` of
+// change_rollups, would be a trait and two impls for the one comparison here.
 pub fn is_beyond(down: bool, m: f64, v: f64) -> bool
     ensures { result ≡ beyond down m v }
 {

@@ -10,6 +10,8 @@ ghost use Rattle.window.specs.Types.{AllFinite};
 ghost use Rattle.window.specs.Tests.{Tests};
 ghost use Rattle.window.specs.Window.{first_of, first_or, last_of, last_or, up_to_last};
 
+// Values are NaN where there is none, as in the Rust: a value may be NaN itself, and no rollup tells the two apart. No time could stand for
+// none.
 #[derive(Clone, Copy)]
 pub struct RollupFuncArg {
     // The value of the last reading at or before the window's start, if that reading is later than the start
