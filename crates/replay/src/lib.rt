@@ -47,7 +47,8 @@ pub struct Difference {
 }
 
 // The byte where the next case begins, the numbers of cases and of differences so far, and the first
-// case that differed.
+// case that differed. `Counted` is asked in clauses and no ghost field keeps it: with one, the struct imports all that this
+// file's clauses name, and of that the specs, which make tallies by `record {..}`, import the struct.
 #[derive(Clone, Copy)]
 pub struct Tally {
     pub at: usize,
