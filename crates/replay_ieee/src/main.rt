@@ -45,7 +45,7 @@ impl TryFrom<u64> for Operation {
 }
 
 impl Operation {
-    // Its answer, as it is stored.
+    // Its answer, as it is stored. A match sees that each operation has its function.
     fn answer(self, a: u64, b: u64) -> u64 {
         let x = ieee::value_of(a);
         match self {

@@ -42,7 +42,7 @@ impl Function {
         matches!(self, Function::Quantile | Function::ModeNoNans)
     }
 
-    // Its answer, as it is stored.
+    // Its answer, as it is stored. A match sees that each has its call.
     fn answer(self, values: &[u64], parameter: f64, work: &mut [f64]) -> u64
         requires { 2 * length values.now ≤ length work.old }
     {
@@ -74,7 +74,7 @@ fn case(words: &mut Cursor) -> Result<bool, Unread> {
     let Some(function) = function else {
         return Ok(false);
     };
-    let mut work = [0.0; 128];
+    let mut work = [0.0; 2 * vectors::MOST];
     Ok(function.answer(&values, parameter, &mut work) == stored)
 }
 

@@ -8,6 +8,7 @@ use vectors::{Cursor, Unread};
 
 // Whether the next case has the stored answer.
 fn case(words: &mut Cursor) -> Result<bool, Unread> {
+    // Of `and_then(steps::step_of)` the check finds no contract, since the module that `step_of` stands in is private.
     let pre = u32::try_from(words.word()?)
         .ok()
         .and_then(|number| steps::step_of(number))

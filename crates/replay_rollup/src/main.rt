@@ -105,7 +105,7 @@ impl Stored {
     fn answer(&self, number: u32) -> u64
         requires { Ready self.now.rfa self.now.values.items self.now.timestamps.items 128 }
     {
-        let mut work = [0.0; 128];
+        let mut work = [0.0; 2 * vectors::MOST];
         match rollup::choice::rollup_of(number, self.first, self.second) {
             Some(handler) => rollup::handler::eval(
                 handler,

@@ -16,32 +16,43 @@ use vectors::{Cursor, Unread};
 // The number of rollups.
 const ROLLUPS: u32 = 49;
 
-// A call: a run with its settings, or a settled run with its own.
+// What is stored of a call that is accepted, beside its answers: the count, and what the settings settle to.
 #[derive(Clone, Copy)]
-enum Call {
-    Run(RollupConfig),
-    Settled(SettledConfig),
+struct Counted {
+    count: u64,
+    settled: Settlement,
 }
 
-// What a call is to give beside its answers: a count, where the settings settle to these, or a refusal with a
-// number and an index.
-#[derive(Clone, Copy)]
-enum Outcome {
-    Counted { count: u64, settled: Settlement },
-    Refused { number: u64, index: u64 },
+// What is stored of a refusal.
+#[derive(Clone, Copy, Debug, PartialEq, Eq)]
+struct Refused {
+    number: u64,
+    index: u64,
 }
 
-impl Outcome {
-    // Whether a call gave it.
-    fn is(self, figures: Result<u64, Refusal>) -> bool {
-        match (figures, self) {
-            (Ok(n), Outcome::Counted { count, .. }) => n == count,
-            (Err(refusal), Outcome::Refused { number, index }) => {
-                refusal.number() == number && refusal.index() == index
-            }
-            _ => false,
-        }
+// What is stored of a call's outcome, by four numbers of a case.
+fn outcome_of(window: u64, reach: u64, count: u64, points: usize) -> Result<Counted, Refused> {
+    if points == 0 {
+        return Err(Refused {
+            number: window,
+            index: reach,
+        });
     }
+    let settled = Settlement {
+        window: vectors::signed(window),
+        reach: vectors::signed(reach),
+        points: points as u64,
+    };
+    Ok(Counted { count, settled })
+}
+
+// Whether a call gave the count or the refusal that is stored.
+fn same_outcome(stored: Result<Counted, Refused>, figures: Result<u64, Refusal>) -> bool {
+    let given = figures.map_err(|refusal| Refused {
+        number: refusal.number(),
+        index: refusal.index(),
+    });
+    given == stored.map(|counted| counted.count)
 }
 
 // A case: the preparing step where its number has one, the rollups' parameters, the readings, the settings, and
@@ -54,13 +65,14 @@ struct Stored {
     timestamps: Vec<i64>,
     values: Vec<u64>,
     rc: RollupConfig,
-    outcome: Outcome,
+    outcome: Result<Counted, Refused>,
     answers: Vec<Vec<u64>>,
 }
 
 impl Stored {
     // The next case.
     fn read(words: &mut Cursor) -> Result<Stored, Unread> {
+        // Of `and_then(steps::step_of)` the check finds no contract, since the module that `step_of` stands in is private.
         let pre = u32::try_from(words.word()?)
             .ok()
             .and_then(|number| steps::step_of(number));
@@ -73,21 +85,7 @@ impl Stored {
         // The last of them says where the stored answer is the port's own and not the Rust's.
         let [window, reach, count, _departs] = words.array::<4>()?;
         let points = words.count()?;
-        let outcome = if points == 0 {
-            Outcome::Refused {
-                number: window,
-                index: reach,
-            }
-        } else {
-            Outcome::Counted {
-                count,
-                settled: Settlement {
-                    window: vectors::signed(window),
-                    reach: vectors::signed(reach),
-                    points: points as u64,
-                },
-            }
-        };
+        let outcome = outcome_of(window, reach, count, points);
         let mut answers = Vec::with_capacity(words.alloc, ROLLUPS as usize)?;
         for _ in 0..ROLLUPS {
             answers.push(words.words(points)?)?;
@@ -104,43 +102,23 @@ impl Stored {
         })
     }
 
-    // Whether a call gives what is stored, with these answers.
-    fn same_call(
-        &self,
-        pre: PreFunction,
-        handler: RollupHandler,
-        call: Call,
-        stored: &Vec<u64>,
-    ) -> Result<bool, Unread> {
+    // Whether a call over the readings gives what is stored, with these answers. The call is handed the slices that
+    // it writes: the answers, the prepared values and the work slice.
+    fn same_call<F>(&self, call: F, stored: &Vec<u64>) -> Result<bool, Unread>
+    where
+        F: Fn(&Series, &mut [u64], &mut [u64], &mut [f64]) -> Result<u64, Refusal>,
+        requires { F.IsAlwaysCallable call }
+    {
         let alloc = *stored.allocator();
         let mut answers = vectors::others(stored, alloc)?;
         let mut prepared = vectors::others(&self.values, alloc)?;
-        let mut work = [1.0; 128];
+        let mut work = [1.0; 2 * vectors::MOST];
         let series = Series {
             timestamps: &self.timestamps,
             values: &self.values,
         };
-        let figures = match call {
-            Call::Run(rc) => run::run(
-                &series,
-                pre,
-                handler,
-                rc,
-                &mut answers,
-                &mut prepared,
-                &mut work,
-            ),
-            Call::Settled(sc) => run::settled_run(
-                &series,
-                pre,
-                handler,
-                sc,
-                &mut answers,
-                &mut prepared,
-                &mut work,
-            ),
-        };
-        Ok(self.outcome.is(figures) && answers == *stored)
+        let figures = call(&series, &mut answers, &mut prepared, &mut work);
+        Ok(same_outcome(self.outcome, figures) && answers == *stored)
     }
 
     // Whether the run with a numbered rollup gives what is stored and, where it is accepted, the settled run too.
@@ -153,33 +131,36 @@ impl Stored {
         let Some(handler) = rollup::choice::rollup_of(number, self.first, self.second) else {
             return Ok(false);
         };
-        if !self.same_call(pre, handler, Call::Run(self.rc), stored)? {
+        let rc = self.rc;
+        let run = |series: &Series, answers: &mut [u64], prepared: &mut [u64], work: &mut [f64]| {
+            run::run(series, pre, handler, rc, answers, prepared, work)
+        };
+        if !self.same_call(run, stored)? {
             return Ok(false);
         }
-        match self.outcome {
-            Outcome::Refused { .. } => Ok(true),
-            Outcome::Counted { settled, .. } => {
-                let sc = SettledConfig {
-                    start: self.rc.start,
-                    end: self.rc.end,
-                    step: self.rc.step,
-                    window: settled.window,
-                    reach: settled.reach,
-                    samples_scanned_per_call: self.rc.samples_scanned_per_call,
-                };
-                self.same_call(pre, handler, Call::Settled(sc), stored)
-            }
-        }
+        let Ok(Counted { settled, .. }) = self.outcome else {
+            return Ok(true);
+        };
+        let sc = SettledConfig {
+            start: rc.start,
+            end: rc.end,
+            step: rc.step,
+            window: settled.window,
+            reach: settled.reach,
+            samples_scanned_per_call: rc.samples_scanned_per_call,
+        };
+        let run = |series: &Series, answers: &mut [u64], prepared: &mut [u64], work: &mut [f64]| {
+            run::settled_run(series, pre, handler, sc, answers, prepared, work)
+        };
+        self.same_call(run, stored)
     }
 
     // Whether the settings settle to what is stored.
     fn same_settled(&self) -> bool {
-        match self.outcome {
-            Outcome::Refused { .. } => true,
-            Outcome::Counted { settled, .. } => {
-                replay_settings::same(settled, config::settle::settle(&self.timestamps, self.rc))
-            }
-        }
+        let Ok(Counted { settled, .. }) = self.outcome else {
+            return true;
+        };
+        replay_settings::same(settled, config::settle::settle(&self.timestamps, self.rc))
     }
 
     // Whether all calls give what is stored. A number that has no step counts as a difference.

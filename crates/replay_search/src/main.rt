@@ -151,7 +151,7 @@ fn per_call(words: &mut Cursor) -> Result<bool, Unread> {
     Ok(scanned.is_some_and(|scanned| scanned as u64 == stored))
 }
 
-// Whether the next case has the stored answer.
+// Whether the next case has the stored answer. A match sees that each question has its function.
 fn case(words: &mut Cursor) -> Result<bool, Unread> {
     match Question::try_from(words.word()?)? {
         Question::Search => search(words),
