@@ -58,8 +58,8 @@ fn time_at(timestamps: &[i64], k: usize) -> Option<i64>
     timestamps.get(k).copied()
 }
 
-// The record at t_end, for the course's window and reach. The times are a series', and the values beside them those of a step, which
-// may be NaN, so that no type of the crate series holds both.
+// The record at t_end, for the course's window and reach. Times and values come apart: the values are those of a step, and stand in another
+// slice than the series'.
 pub fn record_at(
     timestamps: &[i64],
     values: &[u64],

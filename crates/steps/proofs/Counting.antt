@@ -9,9 +9,18 @@ use lib.Ieee.{Float, binary64, of_bits, to_bits}
 use Rattle.ieee.specs.Patterns.{floats, patterns}
 use Rattle.series.proofs.All.{Finite, Number}
 use Rattle.steps.specs.declared.Counter.{Counter}
-use Rattle.steps.specs.Steps.{begun, compared, next, outputs_from}
+use Rattle.steps.specs.Steps.{begun, counted, counter_after_either, outputs_from}
 use Rattle.steps.proofs.Resets.{Keeps, Sound, begun-sound, keeps_output, keeps-value}
 use Rattle.times.proofs.Written.{Written, turn, done, left_at}
+
+-- what of its state a step compares a value with
+abbrev compared : Bool → Counter → Float
+compared true s = s.output
+compared false s = s.value
+
+either-is : (again : Bool) (s : Counter) (v : Float) → counter_after_either again s v ≡ counted (compared again s) s v
+either-is true s v = refl
+either-is false s v = refl
 
 keeps : (again : Bool) → Keeps (compared again)
 keeps true = keeps_output
@@ -24,19 +33,19 @@ begins false = begun-sound
 module _ (again : Bool) (values : List ℕ) where
   -- the outputs of all values
   abbrev outputs : List ℕ
-  outputs = patterns (outputs_from (next again) begun (floats values))
+  outputs = patterns (outputs_from (counter_after_either again) begun (floats values))
 
   -- i values are done, and led to a state
   pub record Counting (i : ℕ) (prepared : List ℕ) (s : Counter) : Type 0 where
     pub sound : Sound (compared again s) s
-    pub written : Written (length values) i prepared (patterns (outputs_from (next again) s (floats (drop i values)))) outputs
+    pub written : Written (length values) i prepared (patterns (outputs_from (counter_after_either again) s (floats (drop i values)))) outputs
 
   pub counting-begins : {prepared : List ℕ} {s : Counter} → s ≡ begun → length prepared ≡ length values → Counting 0 prepared s
   counting-begins is-begun e = rw is-begun record { sound = begins again; written = record { size = e; parts = refl } }
 
-  module _ {i : ℕ} {prepared : List ℕ} {s t : Counter} (v : Float) (w : Counting i prepared s) (k : Finite v) (is-next : t ≡ next again s v) where
+  module _ {i : ℕ} {prepared : List ℕ} {s t : Counter} (v : Float) (w : Counting i prepared s) (k : Finite v) (is-next : t ≡ counter_after_either again s v) where
     next-sound : Sound (compared again t) t
-    next-sound = rw is-next (keeps again s v w.sound k)
+    next-sound = rw (is-next, either-is again s v) (keeps again s v w.sound k)
 
     pub counting-number : Number t.output
     counting-number = next-sound.number

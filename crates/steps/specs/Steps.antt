@@ -51,12 +51,9 @@ counter_after s v = counted s.output s v
 abbrev pub counter_after_once : Counter → Float → Counter
 counter_after_once s v = counted s.value s v
 
--- the two by one test: what of its state a step compares a value with, the output before where it corrects again and else the raw value before
-abbrev pub compared : Bool → Counter → Float
-compared again s = pick again s.output s.value
-
-abbrev pub next : Bool → Counter → Float → Counter
-next again s v = counted (compared again s) s v
+-- the one or the other: whether a restart is corrected again
+abbrev pub counter_after_either : Bool → Counter → Float → Counter
+counter_after_either again s v = pick again (counter_after s v) (counter_after_once s v)
 
 -- the outputs from a state on, where each value leads to the next state
 unfoldable pub outputs_from : (Counter → Float → Counter) → Counter → List Float → List Float

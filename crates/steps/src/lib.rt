@@ -8,7 +8,7 @@ ghost use Rattle.ieee.specs.Patterns.{floats, patterns};
 ghost use Rattle.times.specs.Milli.{time_limit, Within};
 ghost use Rattle.times.specs.Leading.{leading};
 ghost use Rattle.series.specs.Rows.{time_inside};
-ghost use Rattle.steps.specs.Steps.{begun, compared, corrected, counted, counter_after, counter_after_once, grown, next, outputs_from, resets, resets_once, deltas, sloped, derivs, whole_seconds, intervals};
+ghost use Rattle.steps.specs.Steps.{begun, corrected, counter_after, counter_after_either, counter_after_once, grown, outputs_from, resets, resets_once, deltas, sloped, derivs, whole_seconds, intervals};
 
 pub use choice::step_of;
 use series::FiniteValues;
@@ -105,14 +105,14 @@ impl Counter {
     }
 }
 
-// A counter step: what of its state it compares the next value with.
+// A counter step: which state follows a value.
 trait CounterStep {
-    // Whether that is the output before, and not the raw value before.
+    // Whether a restart is corrected again.
     ghost again: { Bool };
 
     // The state after the raw value v.
     fn next(counter: Counter, v: f64) -> Counter
-        ensures { result ≡ counted (compared again counter) counter v };
+        ensures { result ≡ counter_after_either again counter v };
 }
 
 // After a restart each value that is still below the output before it is corrected again.
@@ -142,7 +142,7 @@ impl CounterStep for CorrectedOnce {
 // each clause asks: a struct of both would hold a `&mut`, as in run.
 fn correct<S: CounterStep>(values: &FiniteValues, prepared: &mut [u64])
     requires { length prepared.old ≡ length values.now.slice.now }
-    ensures { prepared.new ≡ patterns (outputs_from (next S.again) begun (floats values.now.slice.now)) }
+    ensures { prepared.new ≡ patterns (outputs_from (counter_after_either S.again) begun (floats values.now.slice.now)) }
 {
     let mut counter = Counter::new();
     for i in 0..values.slice.len() {
