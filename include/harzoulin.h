@@ -105,7 +105,7 @@ enum harzoulin_refusal {
     HARZOULIN_REFUSED_READINGS = 2,
     /* a time outside -2^50..2^50 */
     HARZOULIN_REFUSED_TIME = 3,
-    /* a time not above the one before */
+    /* a time below the one before; in a series of harzoulin_merge, a time not above it */
     HARZOULIN_REFUSED_ORDER = 4,
     /* a value NaN or infinite */
     HARZOULIN_REFUSED_VALUE = 5,
@@ -195,7 +195,7 @@ uint64_t harzoulin_crossings(const int64_t *timestamps, size_t timestamps_len,
                              uint64_t *indexes, size_t indexes_len, uint64_t *count,
                              uint64_t *index);
 
-/* Finds the reading nearest to time; of two that are as near, the one of the lower index. On
+/* Finds the reading nearest to time; of those that are as near, the one of the lowest index. On
  * acceptance *found is 1 and *nearest its index, counted from 0; without readings both are 0. A
  * refusal leaves both as they were. Refusals: 2 to 4; 3 also for time outside -2^50..2^50, with
  * index 0, after the readings' own 3. */

@@ -8,11 +8,10 @@ use lib.IntN.{ℤ, pos, ◌-ℤ◌}
 use lib.ListN.{length, get_or}
 use Rattle.times.specs.Milli.{time_limit, Within}
 use Rattle.times.specs.Later.{NotFalling}
-use Rattle.times.proofs.Later.{rising-not-falling}
 use Rattle.series.specs.Rows.{times_checked}
 use Rattle.std.specs.Prelude.{Ok}
 use Rattle.series.proofs.Accepted.{accepted-times}
-use Rattle.series.proofs.Times.{within_all, rising}
+use Rattle.series.proofs.Times.{none-fall, within_all}
 use Rattle.config.specs.Estimate.{distances_from, distances}
 
 length_from : (t : ℤ) (us : List ℤ) → length (distances_from t us) ≡ length us
@@ -39,7 +38,7 @@ distance-at (t ∷ ts) i h = from_at t ts i (omega arith)
 -- ---- accepted times
 
 pub not-falling : (ts : List ℤ) → times_checked ts ≡ Ok tt → NotFalling ts
-not-falling ts e = rising-not-falling (rising ts (accepted-times ts e).all_rise)
+not-falling ts e = none-fall ts (accepted-times ts e).none_falls
 
 pub within : (ts : List ℤ) → times_checked ts ≡ Ok tt → (i : ℕ) → i < length ts → Within time_limit (get_or ts i (pos 0))
 within ts e i h = within_all ts (accepted-times ts e).all_inside i h

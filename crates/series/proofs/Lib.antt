@@ -2,3 +2,4 @@ pub mod Times
 pub mod Accepted
 pub mod All
 pub mod Offending
+pub mod Falls

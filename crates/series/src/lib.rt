@@ -2,11 +2,12 @@
 #![tactic(auto)]
 
 mod checks;
+mod order;
 mod refusal;
 mod slices;
 mod values;
 
-pub use checks::{MAX_READINGS, check_inside, check_series, check_times, is_inside};
+pub use checks::{MAX_READINGS, check_inside, check_rising, check_series, check_times, is_inside};
 pub use refusal::Refusal;
 pub use slices::{AcceptedSeries, AcceptedTimes, Series};
 pub use values::FiniteValues;

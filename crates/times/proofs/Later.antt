@@ -24,9 +24,6 @@ use Rattle.times.proofs.Order.{le_trans, lt-le, lt_not_le, le_refl, after-trans}
 
 -- ---- order in a list
 
-pub rising-not-falling : {ts : List ℤ} → Rising ts → NotFalling ts
-rising-not-falling {ts} r = record { next = λ i h. lt-le (get_or ts i (pos 0)) (get_or ts (suc i) (pos 0)) (r.next i h) }
-
 pub not-falling-tail : {u : ℤ} {ts : List ℤ} → NotFalling (u ∷ ts) → NotFalling ts
 not-falling-tail n = record { next = λ i h. n.next (suc i) (omega arith) }
 

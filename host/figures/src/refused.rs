@@ -87,7 +87,9 @@ fn of_series(series: &Series, refusal: Refusal) -> String {
     match refusal {
         Refusal::Readings => format!("{sentence}: {}", series.times.len()),
         Refusal::Time(place) => format!("{sentence}: {}", time(place)),
-        Refusal::Order(place) => format!("{sentence}: {} after {}", time(place), time(place - 1)),
+        Refusal::Order(place) | Refusal::NotRising(place) => {
+            format!("{sentence}: {} after {}", time(place), time(place - 1))
+        }
         Refusal::Value(place) => format!("{sentence}: {}", series.values[place]),
         _ => sentence.into(),
     }

@@ -112,7 +112,7 @@ fn two_jobs_fail_as_one() {
         .map(|jobs| figures(&format!("--rollup avg --step 1m --jobs {jobs} -"), bad.as_bytes()));
     assert_eq!(
         one.errors,
-        "figures: standard input:2: series s0: refusal 4 at reading 2: the time is not above the one before: -4 after 0\n"
+        "figures: standard input:2: series s0: refusal 4 at reading 2: the time is below the one before: -4 after 0\n"
     );
     assert_eq!(one, two);
 }
@@ -121,7 +121,7 @@ fn two_jobs_fail_as_one() {
 fn a_file_is_written_whole_or_not_at_all() {
     let folder = Folder::new("whole");
     folder.write("good.csv", "0,1\n");
-    folder.write("bad.csv", "0,1\n0,1\n");
+    folder.write("bad.csv", "0,1\n-1,1\n");
     folder.write("out.csv", "before");
     let run = |file: &str| {
         let line = format!("--rollup avg --step 1m --output out.csv --plot p.svg {file}");

@@ -17,7 +17,7 @@ fn files_of_one_series_are_one_series() {
     let folder = Folder::new("one");
     folder.write("may.csv", "name,time,value\na,2026-05-01,1\nb,2026-05-01,5\na,2026-05-02,2\n");
     folder.write("june.csv", "time,value,name\n2026-05-03,3,a\n2026-05-03,7,c\n");
-    folder.write("late.csv", "# overlaps\na,2026-05-02,3\n");
+    folder.write("late.csv", "# overlaps\na,2026-05-01T23:00:00Z,3\n");
     let text = "name,time,sum\na,2026-05-01T00:00:00Z,1\na,2026-05-02T00:00:00Z,2\n\
                 a,2026-05-03T00:00:00Z,3\nb,2026-05-01T00:00:00Z,5\nc,2026-05-03T00:00:00Z,7\n";
     for jobs in [1, 2, 5] {
@@ -27,12 +27,12 @@ fn files_of_one_series_are_one_series() {
         let errors = format!("figures: {message}\n");
         assert_eq!(run(&folder, files), Outcome { status: 1, output: String::new(), errors });
     };
-    let order = "refusal 4 at reading 3: the time is not above the one before";
+    let order = "refusal 4 at reading 3: the time is below the one before";
     refused(
         "may.csv late.csv",
-        &format!("late.csv:2: series a: {order}: 2026-05-02T00:00:00Z after 2026-05-02T00:00:00Z"),
+        &format!("late.csv:2: series a: {order}: 2026-05-01T23:00:00Z after 2026-05-02T00:00:00Z"),
     );
-    let order = "refusal 4 at reading 2: the time is not above the one before";
+    let order = "refusal 4 at reading 2: the time is below the one before";
     refused(
         "june.csv may.csv",
         &format!("may.csv:2: series a: {order}: 2026-05-01T00:00:00Z after 2026-05-03T00:00:00Z"),

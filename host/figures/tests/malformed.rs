@@ -58,8 +58,8 @@ fn times() {
         "0,1\n1125899906842625,1\n",
         "2: refusal 3 at reading 2: the time lies outside ±2^50 milliseconds: 1125899906842625",
     );
-    let order = "at reading 2: the time is not above the one before";
-    refused("time,value\n5,1\n5,1\n", &format!("3: refusal 4 {order}: 5 after 5"));
+    let order = "at reading 2: the time is below the one before";
+    refused("time,value\n5,1\n4,1\n", &format!("3: refusal 4 {order}: 4 after 5"));
     refused("5,1\n\n# a comment\n4,1\n", &format!("4: refusal 4 {order}: 4 after 5"));
     refused("a,5,1\nb,1,1\nb,2,1\na,4,1\n", &format!("4: series a: refusal 4 {order}: 4 after 5"));
 }

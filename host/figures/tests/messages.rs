@@ -19,12 +19,12 @@ const READINGS: &str = "0,1\n60000,2\n";
 fn refusals_of_readings() {
     let of = |input: &str, message: &str| refused("--rollup avg --step 1m -", input, message);
     of(
-        "time,value\n5,1\n5,2\n",
-        ":3: refusal 4 at reading 2: the time is not above the one before: 5 after 5",
+        "time,value\n5,1\n5,2\n4,3\n",
+        ":4: refusal 4 at reading 3: the time is below the one before: 4 after 5",
     );
     of(
         "2026-01-02,1\n2026-01-01,2\n",
-        ":2: refusal 4 at reading 2: the time is not above the one before: 2026-01-01T00:00:00Z \
+        ":2: refusal 4 at reading 2: the time is below the one before: 2026-01-01T00:00:00Z \
          after 2026-01-02T00:00:00Z",
     );
     of(
@@ -89,8 +89,8 @@ fn refusals_of_crossings() {
     };
     of(
         "nan",
-        "time,value\n5,1\n5,NaN\n",
-        ":3: refusal 4 at reading 2: the time is not above the one before: 5 after 5",
+        "time,value\n5,1\n4,NaN\n",
+        ":3: refusal 4 at reading 2: the time is below the one before: 4 after 5",
     );
     of("nan", "0,1\n1,inf\n", ":2: refusal 5 at reading 2: the value is NaN or infinite: inf");
     let sentence = "refusal 15: the limit of the crossings is NaN or infinite";
@@ -111,7 +111,7 @@ fn refusals_of_nearest() {
         let message = format!(": {asked}: {at}");
         of(at, READINGS, &message);
         of(at, "", &message);
-        of(at, "5,1\n5,1\n", &message);
+        of(at, "5,1\n4,1\n", &message);
         of(at, "a,0,1\n", &format!(": series a{message}"));
     }
     for at in ["0", "1125899906842625"] {
@@ -122,8 +122,8 @@ fn refusals_of_nearest() {
     }
     of(
         "0",
-        "5,1\n5,1\n",
-        ":2: refusal 4 at reading 2: the time is not above the one before: 5 after 5",
+        "5,1\n4,1\n",
+        ":2: refusal 4 at reading 2: the time is below the one before: 4 after 5",
     );
 }
 

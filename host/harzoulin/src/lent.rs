@@ -215,13 +215,22 @@ pub fn merge(
             [length, index]
         )
     };
-    accepted(number, index).map(|()| length as usize)
+    of_merge(number, index).map(|()| length as usize)
 }
 
 /// Nothing for number 0, else the refusal.
 fn accepted(number: u64, index: u64) -> Result<(), Refusal> {
+    answered(number, Refusal::of(number, index))
+}
+
+/// The same of merge.
+fn of_merge(number: u64, index: u64) -> Result<(), Refusal> {
+    answered(number, Refusal::of_merge(number, index))
+}
+
+fn answered(number: u64, refusal: Option<Refusal>) -> Result<(), Refusal> {
     match number {
         0 => Ok(()),
-        _ => Err(Refusal::of(number, index).expect("the core refuses by the numbers of its table")),
+        _ => Err(refusal.expect("the core refuses by the numbers of its table")),
     }
 }

@@ -14,8 +14,10 @@ pub enum Refusal {
     /// 3: a time outside ±2^50. Of [`nearest`](crate::nearest) index 0 may also stand for the time
     /// that is asked for.
     Time(usize),
-    /// 4: a time not above the one before.
+    /// 4: a time below the one before.
     Order(usize),
+    /// 4, of a merge: a time not above the one before.
+    NotRising(usize),
     /// 5: a value NaN or infinite.
     Value(usize),
     /// 6: the step of the grid outside 1 to 2^50.
@@ -49,7 +51,8 @@ pub enum Refusal {
 }
 
 impl Refusal {
-    /// The refusal of a number and an index that an exported function gave, if there is one.
+    /// The refusal of a number and an index that an exported function other than merge gave, if there
+    /// is one.
     pub fn of(number: u64, index: u64) -> Option<Refusal> {
         let index = index as usize;
         Some(match number {
@@ -76,13 +79,21 @@ impl Refusal {
         })
     }
 
+    /// The same of merge, whose row 4 wants times that rise strictly.
+    pub fn of_merge(number: u64, index: u64) -> Option<Refusal> {
+        match number {
+            4 => Some(Refusal::NotRising(index as usize)),
+            _ => Refusal::of(number, index),
+        }
+    }
+
     /// Its number in the table.
     pub fn number(self) -> u32 {
         match self {
             Refusal::Lengths => 1,
             Refusal::Readings => 2,
             Refusal::Time(_) => 3,
-            Refusal::Order(_) => 4,
+            Refusal::Order(_) | Refusal::NotRising(_) => 4,
             Refusal::Value(_) => 5,
             Refusal::Step => 6,
             Refusal::Span => 7,
@@ -109,7 +120,10 @@ impl Refusal {
     /// The first offending reading, if the refusal is of one.
     pub fn reading(self) -> Option<usize> {
         match self {
-            Refusal::Time(index) | Refusal::Order(index) | Refusal::Value(index) => Some(index),
+            Refusal::Time(index)
+            | Refusal::Order(index)
+            | Refusal::NotRising(index)
+            | Refusal::Value(index) => Some(index),
             _ => None,
         }
     }
@@ -120,7 +134,8 @@ impl Refusal {
             Refusal::Lengths => "times and values differ in length",
             Refusal::Readings => "the series has over 16,777,216 readings",
             Refusal::Time(_) => "the time lies outside ±2^50 milliseconds",
-            Refusal::Order(_) => "the time is not above the one before",
+            Refusal::Order(_) => "the time is below the one before",
+            Refusal::NotRising(_) => "the time is not above the one before",
             Refusal::Value(_) => "the value is NaN or infinite",
             Refusal::Step => "the step lies outside 1 to 2^50 milliseconds",
             Refusal::Span => "start or end lies outside ±2^50 milliseconds, or start is after end",

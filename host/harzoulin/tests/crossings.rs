@@ -73,7 +73,7 @@ fn rows_of_crossings() {
     refused(&many, &[bad], bad, Refusal::Lengths);
     refused(&many, &vec![bad; MOST + 1], bad, Refusal::Readings);
     refused(&[5, 5, OUTSIDE], &[bad; 3], bad, Refusal::Time(2));
-    refused(&[5, 6, 6], &[bad; 3], bad, Refusal::Order(2));
+    refused(&[6, 6, 5], &[bad; 3], bad, Refusal::Order(2));
     for bad in [f64::NAN, f64::INFINITY, f64::NEG_INFINITY] {
         refused(&TIMES[..3], &[0.0, bad, 0.0], bad, Refusal::Value(1));
         refused(&TIMES[..3], &[0.0, 1.0, 0.0], bad, Refusal::CrossingLimit);
@@ -114,6 +114,10 @@ fn the_nearest() {
         assert_eq!(nearest(&times, time), Ok(Some(index)), "{time}");
     }
     assert_eq!(nearest(&[-LARGEST, LARGEST], 0), Ok(Some(0)));
+    // Of equal times the first.
+    for (time, index) in [(0, 0), (1, 0), (4, 1), (5, 1), (6, 1), (7, 1), (8, 4), (9, 4)] {
+        assert_eq!(nearest(&[1, 5, 5, 5, 9, 9], time), Ok(Some(index)), "{time}");
+    }
     for time in [-LARGEST, 0, LARGEST] {
         assert_eq!(nearest(&[], time), Ok(None));
         assert_eq!(nearest(&[3], time), Ok(Some(0)));
@@ -130,5 +134,5 @@ fn rows_of_nearest() {
         assert_eq!(nearest(&[], outside), Err(Refusal::Time(0)));
         assert_eq!(nearest(&[outside], 0), Err(Refusal::Time(0)));
     }
-    assert_eq!(nearest(&[5, 6, 6], 0), Err(Refusal::Order(2)));
+    assert_eq!(nearest(&[6, 6, 5], 0), Err(Refusal::Order(2)));
 }

@@ -96,8 +96,8 @@ fn rows_of_each_series() {
         ((&many, &values), Refusal::Readings),
         ((&[5, 5, OUTSIDE], &[NAN; 3]), Refusal::Time(2)),
         ((&[0, -OUTSIDE, 0], &[NAN; 3]), Refusal::Time(1)),
-        ((&[10, 11, 11], &[NAN; 3]), Refusal::Order(2)),
-        ((&[10, 9], &[NAN; 2]), Refusal::Order(1)),
+        ((&[10, 11, 11], &[NAN; 3]), Refusal::NotRising(2)),
+        ((&[10, 9], &[NAN; 2]), Refusal::NotRising(1)),
         ((&[10, 11], &[9.0, f64::INFINITY]), Refusal::Value(1)),
     ];
     for (place, (log, refusal)) in rows.iter().enumerate() {

@@ -47,7 +47,7 @@ fn of_the_series() {
     expect(time, 3, 2, text);
 
     let order = run(&[0, 5, 5, 3], &VALUES, SETTINGS);
-    expect(order, 4, 2, "refusal 4 at reading 2: the time is not above the one before");
+    expect(order, 4, 3, "refusal 4 at reading 3: the time is below the one before");
 
     for bad in [f64::NAN, f64::INFINITY, f64::NEG_INFINITY] {
         let value = run(&TIMES, &[1.0, 2.0, 3.0, bad], SETTINGS);
@@ -75,7 +75,7 @@ fn of_the_settings() {
 
 #[test]
 fn of_settle_and_of_a_settled_run() {
-    assert_eq!(settle(&[0, 0], &SETTINGS), Err(Refusal::Order(1)));
+    assert_eq!(settle(&[0, -1], &SETTINGS), Err(Refusal::Order(1)));
     assert_eq!(settle(&[], &Settings { step: 0, ..SETTINGS }), Err(Refusal::Step));
     let settled = SettledSettings {
         start: 0,

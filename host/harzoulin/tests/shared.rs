@@ -92,6 +92,23 @@ fn every_rollup_and_step() {
     }
 }
 
+/// Of readings of one time every window holds all or none, in whichever job it is.
+#[test]
+fn equal_times() {
+    let mut workspace = Workspace::new();
+    let mut call = call(300);
+    for run in [2, 7, 50, 300] {
+        for place in (0..300).filter(|place| place % run != 0) {
+            call.times[place] = call.times[place - 1];
+        }
+        for rollup in [Rollup::Count, Rollup::Ideriv, Rollup::Default, Rollup::UntilNext] {
+            call.rollup = rollup;
+            assert!(call.whole(&mut workspace).is_ok());
+            call.same_for_every_number_of_jobs(&mut workspace);
+        }
+    }
+}
+
 /// Windows and grids of all kinds: of a window that is settled, of one output time, of as many as
 /// jobs and one fewer, and of a step that does not meet the end.
 #[test]
@@ -132,7 +149,7 @@ fn refusals() {
         (1, with(&|call| call.values.truncate(49))),
         (2, with(&|call| (call.times, call.values) = (vec![0; MOST + 1], vec![0.0; MOST + 1]))),
         (3, with(&|call| call.times[49] = 1 << 51)),
-        (4, with(&|call| call.times[7] = call.times[6])),
+        (4, with(&|call| call.times[7] = call.times[6] - 1)),
         (5, with(&|call| (call.values[31], call.settings.step) = (f64::NAN, 0))),
         (5, with(&|call| call.values[31] = f64::INFINITY)),
         (6, with(&|call| call.settings.step = 0)),

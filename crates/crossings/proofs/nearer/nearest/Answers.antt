@@ -1,4 +1,4 @@
--- `crossings::nearer::nearest` meets its contract: a refusal is the first row that refuses; an accepted series has times that rise, among which it seeks.
+-- `crossings::nearer::nearest` meets its contract: a refusal is the first row that refuses; an accepted series has times that do not fall, among which it seeks.
 -- Assumes nothing.
 use Prim.Native.Nat.{◌<◌}
 use mathlib.Core.Path.{◌≡◌, sym, ap, ◌∙◌}
@@ -8,9 +8,8 @@ use lib.Dec.{ltb}
 use lib.ListN.{length}
 use Rattle.ieee.proofs.Tests.{by-test}
 use mir.Facts.{to_z-of_z}
-use Rattle.times.proofs.Later.{rising-not-falling}
 use Rattle.series.proofs.Accepted.{accepted-times}
-use Rattle.series.proofs.Times.{inside-within, rising}
+use Rattle.series.proofs.Times.{inside-within, none-fall}
 use Rattle.crossings.specs.Nearest.{asked_checked}
 use Rattle.crossings.proofs.Asked.{asked-accepted}
 use Rattle.crossings.proofs.nearer.nearest.Goals as goal
@@ -19,7 +18,7 @@ pub invariant_of-times : goal.invariant_of-times
 invariant_of-times c =
     let checked-is : c.check_asked.result ≡ asked_checked c.args.timestamps.now c.args.time = c.check_asked.ensures ∙ ap (asked_checked c.args.timestamps.now) (to_z-of_z c.ranges.time) in
     let accepted = asked-accepted _ _ (sym checked-is ∙ c.in_ok-check_asked.was) in
-    record { not_falling = rising-not-falling (rising c.args.timestamps.now (accepted-times _ accepted.0).all_rise) }
+    record { not_falling = none-fall c.args.timestamps.now (accepted-times _ accepted.0).none_falls }
 
 pub seek_nearest-requires : goal.seek_nearest-requires
 seek_nearest-requires c =
