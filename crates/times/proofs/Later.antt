@@ -15,12 +15,12 @@ use Rattle.std.proofs.Common.{Some, None}
 use Rattle.std.proofs.lemmas.List.{get_or-take, length-take}
 use borrow.Author.Tests.{leb-true, leb-false, ltb-true, ltb-false}
 use Rattle.times.specs.Leading.{leading}
-use Rattle.times.specs.Later.{NotFalling, Rising, first_after}
+use Rattle.times.specs.Later.{NotFalling, first_after}
 use Rattle.times.specs.Readings.{filter}
 use Rattle.times.proofs.Leading.{leading_le, leading-passes, leading-fails, leading-only}
 use Rattle.times.proofs.Readings.{filter-and, map-drop}
 use Rattle.ieee.proofs.Tests.{by-test}
-use Rattle.times.proofs.Order.{le_trans, lt-le, lt_not_le, le_refl, after-trans}
+use Rattle.times.proofs.Order.{le_trans, lt_not_le, le_refl, after-trans}
 
 -- ---- order in a list
 
