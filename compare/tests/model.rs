@@ -123,11 +123,11 @@ fn refused_nearest() {
     for time in [outside, -outside, i64::MIN, i64::MAX] {
         refuses(nearest(&[], time), 3, 0);
         refuses(nearest(&[0, 1], time), 3, 0);
-        refuses(nearest(&[0, 0], time), 3, 0);
-        refuses(nearest(&[0, 0, outside], time), 3, 2);
+        refuses(nearest(&[1, 0], time), 3, 0);
+        refuses(nearest(&[1, 0, outside], time), 3, 2);
     }
-    refuses(nearest(&[0, 1, 1], 0), 4, 2);
-    refuses(nearest(&[0, 0, -outside], 0), 3, 2);
+    refuses(nearest(&[0, 2, 1], 0), 4, 2);
+    refuses(nearest(&[1, 0, -outside], 0), 3, 2);
 }
 
 #[test]
@@ -202,7 +202,8 @@ const SECOND: u64 = 100;
 
 /// The rows that a call offends, sorted.
 fn offended(call: Call, case: &Case) -> Vec<u64> {
-    let first = rows::offences(Call::Prepare, case).filter(|(number, _)| *number <= 5).count();
+    let alone = Case { second_timestamps: vec![], second_values: vec![], ..case.clone() };
+    let first = rows::offences(call, &alone).filter(|(number, _)| *number <= 5).count();
     let numbers = rows::offences(call, case).map(|(number, _)| number).enumerate();
     let of_second = |i, number| call == Call::Merge && i >= first && number <= 5;
     let numbers = numbers.map(|(i, number)| number + SECOND * of_second(i, number) as u64);
