@@ -1,6 +1,6 @@
 //! The Rust as the judge of the port: what it answers, generated inputs, the fixed lists for the
 //! gate, and the comparison with the exported functions. Of what the Rust does not have, the judge is
-//! a model.
+//! a model, of runs over equal times the window rule.
 
 pub mod arguments;
 pub mod call;
@@ -16,4 +16,5 @@ pub mod rng;
 pub mod rows;
 pub mod rules;
 pub mod shrink;
+pub mod window;
 pub mod words;

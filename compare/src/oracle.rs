@@ -1,8 +1,11 @@
 //! The outcome of a call as the Rust, or the model, and docs/REFUSALS.md have it.
 
+use original::exposed::Settings;
+
 use crate::call::{Call, Case, Outcome};
+use crate::judge::{self, Run};
 use crate::words::all_bits;
-use crate::{judge, model, rows};
+use crate::{model, rows, window};
 
 pub fn outcome(call: Call, case: &Case) -> Outcome {
     let mut outcome = Outcome::before(case);
@@ -36,18 +39,37 @@ pub fn outcome(call: Call, case: &Case) -> Outcome {
     outcome
 }
 
+/// A run as it is judged, or as the Rust has it.
+type Judge = fn(&Settings, usize, f64, f64, &[f64], &[i64]) -> Run;
+
 fn run(call: Call, case: &Case, outcome: &mut Outcome) {
     let values = prepared(case);
+    let run = run_by(judge::run, call, case, &values);
+    outcome.count = run.count;
+    write(&mut outcome.dst_values, &all_bits(&run.answers));
+    write(&mut outcome.prepared, &all_bits(&values));
+    write(&mut outcome.work, &vec![0; 2 * values.len()]);
+}
+
+fn run_by(judge: Judge, call: Call, case: &Case, values: &[f64]) -> Run {
     let settings = match call {
         Call::SettledRun => judge::settled(&case.settings, case.settings.window, case.reach),
         _ => case.settings.clone(),
     };
-    let (rollup, timestamps) = (case.rollup as usize, &case.timestamps);
-    let run = judge::run(&settings, rollup, case.first, case.second, &values, timestamps);
-    outcome.count = run.count;
-    write(&mut outcome.dst_values, &all_bits(&run.answers));
-    write(&mut outcome.prepared, &all_bits(&values));
-    write(&mut outcome.work, &vec![0; 2 * timestamps.len()]);
+    let rollup = case.rollup as usize;
+    judge(&settings, rollup, case.first, case.second, values, &case.timestamps)
+}
+
+/// Whether the Rust's own run has the answers and the count of this outcome, where it is an accepted run of a series
+/// with equal times, which the window rule judges.
+pub fn as_the_rust(call: Call, case: &Case, outcome: &Outcome) -> Option<bool> {
+    let runs = call == Call::Run || call == Call::SettledRun;
+    if !runs || outcome.number != 0 || !window::repeats(&case.timestamps) {
+        return None;
+    }
+    let run = run_by(judge::by_the_rust, call, case, &prepared(case));
+    let answers = all_bits(&run.answers);
+    Some(run.count == outcome.count && outcome.dst_values.starts_with(&answers))
 }
 
 /// The values after the chosen step.

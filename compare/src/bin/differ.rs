@@ -3,7 +3,8 @@
 //! judges as it does the step and the rollup that the Rust does not have, or cuts: accepted runs with the
 //! settled runs that they are cut into, or reaches: settle of every estimate of `inputs::reaches`, however
 //! many cases are asked for, or all (what the archive has the functions for). With `--rollup R` every
-//! generated run, settled run and cut asks rollup R, but for those that are to name none.
+//! generated run, settled run and cut asks rollup R, but for those that are to name none. Of runs it says how often the
+//! Rust's own run gives what the window rule gives, which judges series with equal times.
 
 use std::collections::BTreeMap;
 use std::process::exit;
@@ -25,6 +26,14 @@ enum What {
 
 /// A call, with a seed for its cut.
 type Generated = (Call, Case, u64);
+
+/// What is found about a call.
+struct Found {
+    /// The number under which an agreement is counted, or what differs.
+    number: Result<u64, String>,
+    /// Whether the Rust's own run gives what the window rule gives, where the rule judges.
+    as_the_rust: Option<bool>,
+}
 
 impl What {
     /// All that the archive has the functions for, with their names.
@@ -64,11 +73,10 @@ impl What {
         }
     }
 
-    /// The number under which an agreement is counted, or what differs.
-    fn disagreement(self, call: Call, case: &Case, seed: u64) -> Result<u64, String> {
+    fn found(self, call: Call, case: &Case, seed: u64) -> Found {
         match self {
-            What::One(_) | What::Reaches => disagreement(call, case),
-            What::Cuts => cuts::disagreement(call, case, seed),
+            What::One(_) | What::Reaches => found(call, case),
+            What::Cuts => Found { number: cuts::disagreement(call, case, seed), as_the_rust: None },
         }
     }
 
@@ -109,10 +117,13 @@ fn main() {
 fn compare(name: &str, what: What, cases: u64, seed: u64, rollup: Option<u32>) -> (u64, u64) {
     let mut agreed = BTreeMap::new();
     let mut shortest: Option<Generated> = None;
-    let (mut compared, mut bad) = (0, 0);
+    let (mut compared, mut bad, mut by_the_rule, mut as_the_rust) = (0, 0, 0, 0);
     for (call, case, seed) in what.cases(cases, seed, rollup) {
         compared += 1;
-        match what.disagreement(call, &case, seed) {
+        let found = what.found(call, &case, seed);
+        by_the_rule += found.as_the_rust.is_some() as u64;
+        as_the_rust += (found.as_the_rust == Some(true)) as u64;
+        match found.number {
             Ok(number) => *agreed.entry(number).or_insert(0) += 1,
             Err(_) => {
                 bad += 1;
@@ -127,24 +138,41 @@ fn compare(name: &str, what: What, cases: u64, seed: u64, rollup: Option<u32>) -
     println!("{name}: {compared} cases{from}, {bad} disagreements");
     let rows: Vec<String> = agreed.iter().map(|(number, n)| format!("{number}: {n}")).collect();
     println!("  agreed, by {}: {}", what.counted(), rows.join(", "));
-    if let Some((call, case, seed)) = shortest {
-        let differs = |case: &Case| what.disagreement(call, case, seed);
-        let case = shrink::shrink(case, |case| differs(case).is_err());
-        println!("  the shortest, made small:\n{case}\n  {}", differs(&case).unwrap_err());
+    if by_the_rule > 0 {
+        println!(
+            "  of {by_the_rule} accepted series with equal times the Rust's run agrees with the \
+             window rule on {as_the_rust}"
+        );
+    }
+    if let Some(shortest) = shortest {
+        print_small(what, shortest);
     }
     (compared, bad)
 }
 
-/// The number that both give, or what differs. A panic of the judge is a disagreement.
-fn disagreement(call: Call, case: &Case) -> Result<u64, String> {
+/// Prints a case that differs, made small, and what differs.
+fn print_small(what: What, (call, case, seed): Generated) {
+    let found = |case: &Case| what.found(call, case, seed).number;
+    let case = shrink::shrink(case, |case| found(case).is_err());
+    println!("  the shortest, made small:\n{case}\n  {}", found(&case).unwrap_err());
+}
+
+/// The port beside the judge. A panic of the judge is a disagreement.
+fn found(call: Call, case: &Case) -> Found {
     let ours = port::outcome(call, case);
-    let Some(theirs) = judge::caught(|| oracle::outcome(call, case)) else {
-        return Err("the judge panics".to_string());
+    let judged = || {
+        let theirs = oracle::outcome(call, case);
+        let as_the_rust = oracle::as_the_rust(call, case, &theirs);
+        (theirs, as_the_rust)
     };
-    match ours.against(&theirs)[..] {
+    let Some((theirs, as_the_rust)) = judge::caught(judged) else {
+        return Found { number: Err("the judge panics".to_string()), as_the_rust: None };
+    };
+    let number = match ours.against(&theirs)[..] {
         [] => Ok(ours.number),
         ref lines => Err(lines.join("\n  ")),
-    }
+    };
+    Found { number, as_the_rust }
 }
 
 fn usage() -> ! {

@@ -1,6 +1,8 @@
 //! `survey [--cases N] [--seed S]` asks the Rust alone, on N accepted runs and settled runs: whether
-//! it does what `rules` writes out, where a departure applies, and whether it panics elsewhere. Where the
-//! step is not the Rust's, its rollups are asked on the model's values. It needs no port.
+//! it does what `rules` and `window` write out, where a departure of a rollup applies, and whether it panics elsewhere.
+//! Where the step is not the Rust's, its rollups are asked on the model's values. Where two times are equal the Rust's
+//! record may be another one than the window rule's, and is not held to it: the Rust's settling, reset step and count
+//! are held to the rules, and its rollups are asked on the window rule's record. It needs no port.
 
 use std::collections::BTreeMap;
 use std::process::exit;
@@ -10,6 +12,7 @@ use compare::arguments::number;
 use compare::call::{Call, Case};
 use compare::inputs::cases;
 use compare::rng::Rng;
+use compare::window::{self, Window};
 use compare::words::{all_bits, bits};
 use compare::{judge, oracle, rules};
 use original::exposed::{self, Record, Rollup, ROLLUPS};
@@ -68,10 +71,12 @@ fn survey(case: &Case, tally: &mut Tally) {
     let sizes = seen.iter().map(|(_, size)| *size);
     let per_call = settings.samples_scanned_per_call;
     tally.hold("the count", case, count == rules::count(values.len(), per_call, sizes));
+    let repeats = window::repeats(timestamps);
     for (k, (seen, _)) in seen.iter().enumerate() {
         let time = settings.start + k as i64 * settings.step;
-        let record = rules::record(timestamps, &values, window, reach, time);
-        tally.hold("the record", case, words(&record) == *seen);
+        let window = Window::at(time, window, reach, timestamps, &values);
+        let record = window.record();
+        tally.hold("the record", case, repeats || words(&record) == *seen);
         rollups(case, &record, tally);
     }
 }
