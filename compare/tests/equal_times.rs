@@ -1,7 +1,9 @@
 //! Readings with equal times: what the request states of them, and what the Rust makes of them; where the Rust's
-//! search stops elsewhere than the window rule has it.
+//! search stops elsewhere than the window rule has it; and whether the generated calls reach what they are to reach.
 
 mod helpers;
+
+use std::collections::BTreeMap;
 
 use compare::call::{Call, Case, Outcome, UNSET};
 use compare::inputs::cases;
@@ -380,4 +382,113 @@ fn the_rule_is_the_rust_where_times_rise() {
         };
         assert_eq!(run(judge::by_the_rule), run(judge::by_the_rust));
     }
+}
+
+#[test]
+fn half_of_the_calls_have_equal_times() {
+    for (_, call) in Call::ALL {
+        let repeats = generated(call).filter(|case| case.series().iter().any(|s| repeats(s.0)));
+        let expected = if call == Call::Merge { 2_000..5_000 } else { 9_500..11_500 };
+        assert!(expected.contains(&repeats.count()));
+    }
+}
+
+/// How many readings have each time that several have.
+fn shared(times: &[i64]) -> BTreeMap<i64, usize> {
+    let mut readings = BTreeMap::new();
+    times.iter().for_each(|time| *readings.entry(*time).or_insert(0) += 1);
+    readings.retain(|_, readings| *readings > 1);
+    readings
+}
+
+#[test]
+fn equal_times_of_every_kind_are_asked() {
+    for (_, call) in Call::ALL.into_iter().filter(|(_, call)| *call != Call::Merge) {
+        let all: Vec<Vec<i64>> = accepted(call).map(|case| case.timestamps).collect();
+        let many = |is: &dyn Fn(&[i64], &BTreeMap<i64, usize>) -> bool| {
+            let asks = all.iter().filter(|times| repeats(times) && is(times, &shared(times)));
+            asks.count() > 100
+        };
+        let size = |is: fn(&usize) -> bool| many(&|_, shared| shared.values().any(is));
+        assert!(size(|n| *n == 2) && size(|n| *n == 3) && size(|n| *n > 15) && size(|n| *n > 40));
+        assert!(many(&|times, shared| shared.contains_key(&times[0]) && shared.len() == 1));
+        assert!(many(&|times, _| times[0] == times[times.len() - 1]));
+        assert!(many(&|times, shared| times[0] != times[times.len() - 1]
+            && shared.contains_key(&times[times.len() - 1])));
+        assert!(many(&|times, shared| !shared.contains_key(&times[0])
+            && !shared.contains_key(&times[times.len() - 1])));
+        assert!(many(&|_, shared| shared.len() > 1) && many(&|_, shared| shared.len() > 3));
+        assert!(many(&|times, _| times.len() < 10) && many(&|times, _| times.len() > 60));
+        assert!(many(&|times, _| times[0] == -(1 << 50) && times[1] == times[0]));
+        assert!(many(&|times, _| times.ends_with(&[1 << 50; 2])));
+    }
+}
+
+/// At an output time, where its window and its reach begin, and a millisecond after each, also where the Rust's search
+/// goes by halves.
+#[test]
+fn equal_times_at_every_edge_are_asked() {
+    for call in RUNS {
+        let cases: Vec<Case> = accepted(call).filter(|case| repeats(&case.timestamps)).collect();
+        let edges: [fn(i64, i64, i64) -> i64; 6] = [
+            |t, _, _| t,
+            |t, _, _| t + 1,
+            |t, window, _| t - window,
+            |t, window, _| t - window + 1,
+            |t, window, reach| t - window - reach,
+            |t, window, reach| t - window - reach + 1,
+        ];
+        for edge in edges {
+            let at = |case: &&Case| {
+                let (window, reach) = match call {
+                    Call::Run => judge::settle(&case.settings, &case.timestamps),
+                    _ => (case.settings.window, case.reach),
+                };
+                let Settings { start, end, step, .. } = case.settings;
+                let shared = shared(&case.timestamps);
+                let mut grid = (start..=end).step_by(step as usize);
+                case.timestamps.len() > 15
+                    && grid.any(|t| shared.contains_key(&edge(t, window, reach)))
+            };
+            assert!(cases.iter().filter(at).count() > 300);
+        }
+    }
+}
+
+/// That a merge is refused for an equal time, at the second place, at the last and between them, in either log.
+#[test]
+fn equal_times_of_every_kind_are_refused() {
+    let refused = generated(Call::Merge).filter_map(|case| {
+        let (number, index) = rows::refusal(Call::Merge, &case)?;
+        let of_first = rows::refusal(
+            Call::Merge,
+            &Case { second_timestamps: vec![], second_values: vec![], ..case.clone() },
+        );
+        let which = if of_first == Some((number, index)) { 0 } else { 1 };
+        (number == 4).then(|| (which, case.series()[which].0.to_vec(), index as usize))
+    });
+    let mut kinds = [[0; 4]; 2];
+    for (which, times, index) in refused {
+        let equal = times[index] == times[index - 1];
+        let last = index + 1 == times.len();
+        let found = [equal && index == 1, equal && last, equal && index > 1 && !last, !equal];
+        kinds[which].iter_mut().zip(found).for_each(|(kind, is)| *kind += is as u64);
+    }
+    assert!(kinds.as_flattened().iter().all(|kind| *kind > 50), "{kinds:?}");
+}
+
+/// That the nearest are several at one time, and that they are as near as others, one or several.
+#[test]
+fn nearest_of_several_are_asked() {
+    let mut kinds = [0; 4];
+    for case in accepted(Call::Nearest).filter(|case| repeats(&case.timestamps)) {
+        let shared = shared(&case.timestamps);
+        let found = case.timestamps[model::nearest(&case.timestamps, case.time).unwrap()];
+        let other = 2 * case.time - found;
+        let tie = found < other && case.timestamps.contains(&other);
+        let [first, second] = [found, other].map(|time| shared.contains_key(&time));
+        let is = [first && !tie, first && tie, tie && second, first && tie && second];
+        kinds.iter_mut().zip(is).for_each(|(kind, is)| *kind += is as u64);
+    }
+    assert!(kinds.iter().all(|kind| *kind > 50), "{kinds:?}");
 }

@@ -243,7 +243,8 @@ fn ties_and_corners_are_asked() {
     let tie = |case: &Case| {
         let distance = |t: &i64| t.abs_diff(case.time);
         let least = case.timestamps.iter().map(distance).min();
-        case.timestamps.iter().filter(|t| Some(distance(t)) == least).count() == 2
+        let nearest = case.timestamps.iter().filter(|t| Some(distance(t)) == least);
+        nearest.collect::<BTreeSet<_>>().len() == 2
     };
     let many = |is: &dyn Fn(&Case) -> bool| accepted.iter().filter(|c| is(c)).count() > 100;
     assert!(many(&tie) && many(&|c| c.timestamps.contains(&c.time)));
@@ -696,7 +697,7 @@ fn output_times_of_every_kind_are_asked() {
                 next.is_some_and(|next| values[next].is_nan())
             })
         };
-        assert!(waiting.iter().filter(nan).count() > 20);
+        assert!(waiting.iter().filter(nan).count() > 10);
     }
 }
 

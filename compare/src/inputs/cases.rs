@@ -4,7 +4,7 @@
 use original::exposed::Settings;
 
 use super::series::TIME_LIMIT;
-use super::{crossings, floats, merge, nearest, series, settings, until_next};
+use super::{crossings, equal_times, floats, merge, nearest, series, settings, until_next};
 use crate::call::{Call, Case, UNSET};
 use crate::judge::{self, ROLLUPS, STEPS};
 use crate::rng::Rng;
@@ -25,16 +25,27 @@ pub fn case(rng: &mut Rng, call: Call, rollup: Option<u32>) -> Case {
 /// A call that the Rust judges, but for the step and the rollup that it does not have.
 fn of_the_rust(rng: &mut Rng, call: Call, rollup: Option<u32>) -> Case {
     let mut case = accepted(rng, call, rollup);
-    let spoils = rng.pick(&[0, 0, 0, 1, 1, 2]);
-    for _ in 0..spoils {
-        spoil(rng, call, &mut case);
-    }
+    spoils(rng, call, &mut case);
     case
 }
 
-/// Such a call that is accepted. A run of until_next may go to the limits.
-pub fn accepted(rng: &mut Rng, call: Call, rollup: Option<u32>) -> Case {
+/// A run whose times rise, or one that is spoiled.
+pub fn rising_run(rng: &mut Rng) -> Case {
     let n = series::length(rng);
+    let mut case = of_readings(rng, (false, n), Call::Run, None);
+    spoils(rng, Call::Run, &mut case);
+    case
+}
+
+/// A call that the Rust judges and that is accepted. Half of them have equal times. A run of until_next may go to the
+/// limits.
+pub fn accepted(rng: &mut Rng, call: Call, rollup: Option<u32>) -> Case {
+    let readings = equal_times::half(rng);
+    of_readings(rng, readings, call, rollup)
+}
+
+/// Such a call, with equal times or times that rise, of so many readings.
+fn of_readings(rng: &mut Rng, (equal, n): (bool, usize), call: Call, rollup: Option<u32>) -> Case {
     let step = rng.below(STEPS.len() as u64) as usize;
     let (timestamps, values) = series::for_step(rng, step, n);
     let most = rng.pick(&[1, 2, 3, 10, 40]);
@@ -50,13 +61,17 @@ pub fn accepted(rng: &mut Rng, call: Call, rollup: Option<u32>) -> Case {
         settings,
         ..Case::default()
     };
-    let runs = call == Call::Run || call == Call::SettledRun;
-    if runs && ROLLUPS[case.rollup as usize] == "until_next" {
+    let settled_run = call == Call::SettledRun;
+    if (settled_run || call == Call::Run) && ROLLUPS[case.rollup as usize] == "until_next" {
         // What is drawn for the other rollups stays as it is.
         until_next::to_the_limits(&mut rng.aside(), &mut case);
     }
-    if call == Call::SettledRun {
+    if settled_run {
         settled(rng, &mut case);
+    }
+    if equal {
+        let given = settled_run.then_some((case.settings.window, case.reach));
+        equal_times::in_call(rng, &mut case, given);
     }
     let points = rows::points(&case) as usize;
     case.dst_values = slice(rng, points);
@@ -124,6 +139,14 @@ pub fn slice(rng: &mut Rng, length: usize) -> Vec<u64> {
     (0..length + longer).map(|_| rng.bits()).collect()
 }
 
+/// Mostly nothing; once or twice a row is broken.
+fn spoils(rng: &mut Rng, call: Call, case: &mut Case) {
+    let spoils = rng.pick(&[0, 0, 0, 1, 1, 2]);
+    for _ in 0..spoils {
+        spoil(rng, call, case);
+    }
+}
+
 /// Breaks a row, or goes to the end of a range that it still accepts. Rows that the call does not
 /// read are broken too: it must not mind.
 fn spoil(rng: &mut Rng, call: Call, case: &mut Case) {
@@ -188,7 +211,7 @@ pub(super) fn outside(rng: &mut Rng, low: i64, high: i64) -> i64 {
     rng.pick(&[low, high, low - 1, low - 1, high + 1, high + 1, i64::MIN, i64::MAX])
 }
 
-/// No later than this time.
+/// As late as this time, which merge alone refuses, or earlier.
 pub(super) fn not_above(rng: &mut Rng, time: i64) -> i64 {
     time.saturating_sub(rng.pick(&[0, 0, 1, 1000]))
 }

@@ -1,15 +1,16 @@
-//! Calls of crossings: limits at the values and beside them, series that go to and fro over the limit,
-//! index slices of every length that matters, and rows that are offended by one, two and three.
+//! Calls of crossings: limits at the values and beside them, series that go to and fro over the limit, half of them
+//! with equal times, index slices of every length that matters, and rows that are offended by one, two and three.
 
 use super::cases::{not_finite, place, spoil_series, MOST};
-use super::{floats, series};
+use super::{equal_times, floats};
 use crate::call::{Case, UNSET};
 use crate::model;
 use crate::rng::Rng;
 
 pub fn case(rng: &mut Rng) -> Case {
-    let n = series::length(rng);
-    let (timestamps, values) = series::series(rng, n);
+    let timestamps = equal_times::times(rng);
+    let n = timestamps.len();
+    let values = floats::run(rng, n);
     let limit = limit(rng, &values);
     let values = if rng.once_in(3) { around(rng, limit, n) } else { values };
     let values = values.iter().map(|v| v.to_bits()).collect();

@@ -1,8 +1,8 @@
-//! Calls of merge: logs that lie apart, interleave, are equal, lie within one another or share a part;
-//! times with two values; result slices of every length that matters; rows that either series offends.
+//! Calls of merge: logs that lie apart, interleave, are equal, lie within one another or share a part; times with two
+//! values; result slices of every length that matters; rows that either series offends, the 4th often by equal times.
 
 use super::cases::{place, spoil_series, MOST};
-use super::{floats, series};
+use super::{equal_times, floats, series};
 use crate::call::{Case, UNSET};
 use crate::model;
 use crate::rng::Rng;
@@ -17,6 +17,13 @@ pub fn case(rng: &mut Rng) -> Case {
         let series = if rng.once_in(2) { first } else { second };
         let (row, place) = (rng.below(4), place(rng, series.0));
         spoil_series(rng, row, place, series, 0);
+    }
+    if rng.once_in(8) {
+        let [(first, _), (second, _)] = case.series_mut();
+        let timestamps = if rng.once_in(2) { first } else { second };
+        if !timestamps.is_empty() {
+            equal_times::once(rng, timestamps);
+        }
     }
     lend(rng, &mut case);
     case

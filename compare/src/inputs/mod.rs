@@ -2,6 +2,7 @@
 
 pub mod cases;
 pub mod crossings;
+pub mod equal_times;
 pub mod floats;
 pub mod merge;
 pub mod nearest;

@@ -1,14 +1,14 @@
 //! Calls of nearest: times on a reading, between two and in their middle, before and behind all, at the
-//! limits and outside; rows that are offended by one and two.
+//! limits and outside, half of them in series with equal times; rows that are offended by one and two.
 
 use super::cases::{not_above, outside, MOST};
-use super::series::{self, TIME_LIMIT};
+use super::equal_times;
+use super::series::TIME_LIMIT;
 use crate::call::Case;
 use crate::rng::Rng;
 
 pub fn case(rng: &mut Rng) -> Case {
-    let n = series::length(rng);
-    let timestamps = series::times(rng, n);
+    let timestamps = equal_times::times(rng);
     let time = time(rng, &timestamps);
     let mut case = Case { timestamps, time, ..Case::default() };
     for _ in 0..rng.pick(&[0, 0, 0, 1, 1, 2]) {
@@ -23,7 +23,7 @@ fn time(rng: &mut Rng, timestamps: &[i64]) -> i64 {
     let n = timestamps.len() as u64;
     let place = rng.below(n.max(1)) as usize;
     let near = timestamps.get(place).copied().unwrap_or(0);
-    let next = timestamps.get(place + 1).copied().unwrap_or(near);
+    let next = timestamps.iter().copied().find(|time| *time > near).unwrap_or(near);
     let away = rng.pick(&[1, 2, 1000, 1 << 40]);
     let time = match rng.below(10) {
         0 => near,
