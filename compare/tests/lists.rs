@@ -1,6 +1,7 @@
 //! The fixed lists: made again byte for byte, small enough for the repository, every word in place.
 
 use compare::lists::{text, MAKERS};
+use compare::window::repeats;
 use compare::words::{bits, NAN};
 
 #[test]
@@ -15,7 +16,7 @@ fn made_again() {
 fn format() {
     for maker in MAKERS {
         let list = text(maker.name, 1).unwrap().text;
-        assert!(list.len() < 2_000_000 && list.starts_with("# "));
+        assert!(list.len() < 2_400_000 && list.starts_with("# "));
         let words = &list.as_bytes()[list.find('\n').unwrap() + 1..];
         for word in words.chunks(17) {
             assert!(word[..16].iter().all(|c| matches!(c, b'0'..=b'9' | b'a'..=b'f')));
@@ -81,4 +82,42 @@ fn waits_in_runs() {
             assert_eq!(*answer, next.map_or(NAN, |next| bits((next - time) as f64 / 1e3)));
         }
     }
+}
+
+/// The times of a case whose number stands at this place, before them.
+fn times(case: &[u64], place: usize) -> Vec<i64> {
+    let n = case[place] as usize;
+    case[place + 1..][..n].iter().map(|time| *time as i64).collect()
+}
+
+/// How many cases of a list have equal times.
+fn repeating(name: &str, place: usize) -> usize {
+    cases(name).iter().filter(|case| repeats(&times(case, place))).count()
+}
+
+#[test]
+fn equal_times_are_in_the_lists() {
+    assert_eq!(repeating("prepare", 1), 600);
+    assert_eq!(repeating("settle", 0), 600);
+    assert!((60..=68).contains(&repeating("run", 3)));
+    // Some windows hold none of them.
+    assert!(repeating("rollup", 10) > 200);
+}
+
+/// The search finds the number of times that are not after the target; of many series those just after it are equal.
+#[test]
+fn searches() {
+    let (mut before_equals, mut estimates) = (0, 0);
+    for case in cases("search").iter().filter(|case| case[0] < 2) {
+        let times = times(case, 1);
+        if case[0] == 1 {
+            estimates += repeats(&times) as u64;
+            continue;
+        }
+        let [target, found] = [2, 4].map(|place| case[place + times.len()] as i64);
+        assert_eq!(found, times.iter().filter(|time| **time <= target).count() as i64);
+        let after = times.iter().filter(|time| **time == target + 1).count();
+        before_equals += (times.len() > 15 && found > 0 && after > 1) as u64;
+    }
+    assert!(before_equals > 60 && estimates == 250, "{before_equals}, {estimates}");
 }

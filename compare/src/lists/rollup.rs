@@ -1,14 +1,16 @@
-//! Every rollup on window records: half of them as `do_internal` makes them, half made by hand.
+//! Every rollup on window records: half of them as `do_internal` makes them, half made by hand; at the end such with
+//! equal times, as the window rule makes them and made by hand.
 
 use std::sync::{Arc, Mutex};
 
 use original::exposed::{self, Record, Rollup};
 
 use crate::inputs::series::{self, TIME_LIMIT};
-use crate::inputs::{floats, settings};
+use crate::inputs::{equal_times, floats, settings};
 use crate::judge::{self, ROLLUPS};
 use crate::model;
 use crate::rng::Rng;
+use crate::window::Window;
 use crate::words::{all_bits, bits, times, List};
 
 pub const CASES: &str = "first, second (the parameters), prev_value, prev_timestamp, \
@@ -22,8 +24,18 @@ pub fn make(rng: &mut Rng, list: &mut List) {
         put(rng, list, &Record { values: &values, timestamps: &timestamps, ..record }, next);
     }
     for _ in 0..700 {
-        let (values, timestamps, record, next) = by_hand(rng);
-        put(rng, list, &Record { values: &values, timestamps: &timestamps, ..record }, next);
+        let n = floats::short(rng);
+        let (values, timestamps) = (floats::window(rng, n), series::times(rng, n));
+        by_hand(rng, list, values, timestamps);
+    }
+    for _ in 0..150 {
+        by_the_rule(rng, list);
+    }
+    for _ in 0..150 {
+        let n = floats::short(rng).max(2);
+        let (values, mut timestamps) = (floats::window(rng, n), series::times(rng, n));
+        equal_times::anywhere(rng, &mut timestamps);
+        by_hand(rng, list, values, timestamps);
     }
 }
 
@@ -67,10 +79,22 @@ fn own(rng: &mut Rng) -> Parts {
     (in_window, their_times, rest, next)
 }
 
+/// A record of a series with equal times at the edges of its windows.
+fn by_the_rule(rng: &mut Rng, list: &mut List) {
+    let n = rng.between(2, 20) as usize;
+    let (mut timestamps, mut values) = series::series(rng, n);
+    let s = settings::settings(rng, &timestamps, 4);
+    equal_times::at_edges(rng, &mut timestamps, &s, None);
+    judge::prepare(rng.below(5) as usize, &timestamps, &mut values);
+    let (window, reach) = judge::settle(&s, &timestamps);
+    let time = s.start + s.step * rng.between(0, (s.end - s.start) / s.step);
+    let window = Window::at(time, window, reach, &timestamps, &values);
+    put(rng, list, &window.record(), model::next(&timestamps, time));
+}
+
 /// A record whose parts are chosen one by one: readings in the window, a predecessor or none.
-fn by_hand(rng: &mut Rng) -> Parts {
-    let n = floats::short(rng);
-    let (mut values, timestamps) = (floats::window(rng, n), series::times(rng, n));
+fn by_hand(rng: &mut Rng, list: &mut List, mut values: Vec<f64>, timestamps: Vec<i64>) {
+    let n = values.len();
     if n == 1 && rng.once_in(8) {
         values[0] = f64::NAN;
     }
@@ -86,15 +110,15 @@ fn by_hand(rng: &mut Rng) -> Parts {
     let record = Record {
         prev_value,
         prev_timestamp: near,
-        values: &[],
-        timestamps: &[],
+        values: &values,
+        timestamps: &timestamps,
         real_prev_value,
         real_next_value: neighbour(rng, &values),
         curr_timestamp,
         window: curr_timestamp - start,
     };
     let next = next(rng, curr_timestamp);
-    (values, timestamps, record, next)
+    put(rng, list, &record, next);
 }
 
 /// The first time after the output time: none, one a little later, 0 where that is later, or one as

@@ -1,13 +1,14 @@
-//! The hinted search, the estimate of the interval, the reach of an estimate, and the grid.
+//! The hinted search, the estimate of the interval, the reach of an estimate, and the grid; at the end search and
+//! estimate on equal times.
 
 use original::exposed;
 
 use crate::inputs::series::{self, TIME_LIMIT};
-use crate::inputs::settings;
+use crate::inputs::{equal_times, settings};
 use crate::rng::Rng;
 use crate::words::{times, List};
 
-pub const CASES: &str = "op 0: n, n times, target, hint, seek_first_timestamp_idx_after; \
+pub const CASES: &str = "op 0: n, n times, target, hint, the first index with a later time; \
     op 1: n, n times, get_scrape_interval; op 2: interval, get_max_prev_interval; \
     op 3: start, end, step, length g of get_timestamps, its g times or, where g is above 64, its \
     first and its last; op 4: rollup, rollup_samples_scanned_per_call";
@@ -24,9 +25,7 @@ pub fn make(rng: &mut Rng, list: &mut List) {
     }
     for _ in 0..1000 {
         let n = rng.pick(&[0, 1, 2, 3, 4, 5, 6, 8, 10, 12, 20, 21, 22, 25]);
-        let timestamps = series::times(rng, n);
-        let estimate = exposed::scrape_interval(&timestamps);
-        list.case(&[vec![1, n as u64], times(&timestamps), vec![estimate as u64]].concat());
+        estimate(list, &series::times(rng, n));
     }
     for _ in 0..2000 {
         let interval = interval(rng);
@@ -35,6 +34,15 @@ pub fn make(rng: &mut Rng, list: &mut List) {
     grids(rng, list);
     for rollup in 0..exposed::ROLLUPS.len() {
         list.case(&[4, rollup as u64, exposed::samples_scanned_per_call(rollup) as u64]);
+    }
+    for _ in 0..700 {
+        seek_among_equals(rng, list);
+    }
+    for _ in 0..250 {
+        let n = rng.between(2, 25) as usize;
+        let mut timestamps = series::times(rng, n);
+        equal_times::anywhere(rng, &mut timestamps);
+        estimate(list, &timestamps);
     }
 }
 
@@ -46,9 +54,33 @@ fn seek(rng: &mut Rng, list: &mut List) {
     let target = near + rng.pick(&[0, 0, 1, -1, 500, -500, TIME_LIMIT, -TIME_LIMIT]);
     let hint = rng.below(n as u64 + 5);
     let found = exposed::seek(&timestamps, target, hint as usize);
-    list.case(
-        &[vec![0, n as u64], times(&timestamps), vec![target as u64, hint, found as u64]].concat(),
-    );
+    put_seek(list, &timestamps, target, hint, found);
+}
+
+/// Where times are equal the first index with a later time is the number of those that are not later. The Rust looks
+/// for the millisecond after the target, and may stop at any of several readings there.
+fn seek_among_equals(rng: &mut Rng, list: &mut List) {
+    let n = rng.pick(&[2, 5, 15, 16, 17, 18, 20, 24, 33, 33]);
+    let mut timestamps = series::times(rng, n);
+    equal_times::anywhere(rng, &mut timestamps);
+    let (first, pairs) = (timestamps[0], timestamps.windows(2));
+    let equal = pairs.filter(|pair| pair[0] == pair[1] && pair[1] > first).map(|pair| pair[1]);
+    let equal = [&equal.collect::<Vec<_>>()[..], &[first]].concat();
+    let target = rng.pick(&equal) + rng.pick(&[0, 1, 500, -1, -1, -1, -1]);
+    let hint = if rng.once_in(2) { 0 } else { rng.below(n as u64 + 5) };
+    let found = timestamps.iter().filter(|time| **time <= target).count();
+    put_seek(list, &timestamps, target, hint, found);
+}
+
+fn put_seek(list: &mut List, timestamps: &[i64], target: i64, hint: u64, found: usize) {
+    let n = timestamps.len() as u64;
+    let asked = vec![target as u64, hint, found as u64];
+    list.case(&[vec![0, n], times(timestamps), asked].concat());
+}
+
+fn estimate(list: &mut List, timestamps: &[i64]) {
+    let estimate = exposed::scrape_interval(timestamps) as u64;
+    list.case(&[vec![1, timestamps.len() as u64], times(timestamps), vec![estimate]].concat());
 }
 
 /// Grids near readings, grids of any bounds, and those at the ends of the ranges.
