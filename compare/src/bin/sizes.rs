@@ -1,7 +1,7 @@
 //! `sizes` calls the port with long series and grids: thirty years of a reading a minute under each
-//! rollup, as many readings and output times as are accepted, and one more, and two logs that have as many
-//! times together, and one more. What is accepted is held to the Rust or the model, what is refused to the
-//! number of docs/REFUSALS.md.
+//! rollup, as many readings and output times as are accepted, and one more, as many readings with equal times, and
+//! two logs that have as many times together, and one more. What is accepted is held to the Rust, the window rule or
+//! the model, what is refused to the number of docs/REFUSALS.md.
 
 use std::ops::Range;
 use std::process::exit;
@@ -20,6 +20,15 @@ const DAY: i64 = 86_400_000;
 
 /// The rollups that work on a copy of the window, and so need the work slice to its end.
 const ON_A_COPY: [&str; 5] = ["mad", "median", "mode_over_time", "distinct", "quantile"];
+
+/// Series with equal times: the time of a reading by its place, and a step of the grid.
+const EQUAL: [(&str, fn(i64) -> i64, i64); 2] = [
+    ("all times equal", |_| 0, 1),
+    ("two readings at each time", |place| place / 2 * 60_000, 60_000 << 21),
+];
+
+/// Rollups that divide by how far times lie apart.
+const OVER_TIME: [&str; 2] = ["deriv_fast", "ideriv"];
 
 /// Merges of long logs, each with its number.
 const MERGES: [(&str, u64, fn() -> Case); 10] = [
@@ -75,21 +84,13 @@ fn main() {
     let mut tally = Tally::default();
     years(&mut tally);
     for (readings, number) in [(MOST, 0), (MOST + 1, 2)] {
-        let lent = readings;
-        let series = Case {
-            limit: 200_000.0,
-            indexes: vec![UNSET; lent],
-            lent,
-            time: 1 << 40,
-            merged_timestamps: vec![UNSET as i64; lent],
-            merged_values: vec![UNSET; lent],
-            lent_times: lent,
-            lent_values: lent,
-            ..average(&counter(readings), minutes(1000))
-        };
+        let series = for_all_calls(&counter(readings), minutes(1000));
         for (name, call) in Call::ALL {
             tally.call(call, &series, number, name);
         }
+    }
+    for (what, time, step) in EQUAL {
+        equal_times(&mut tally, what, time, step);
     }
     for (outputs, number) in [(MOST, 0), (MOST + 1, 11)] {
         let grid = average(&counter(1000), minutes(outputs));
@@ -128,6 +129,41 @@ fn years(tally: &mut Tally) {
         if ON_A_COPY.contains(name) {
             days.rollup = number as u32;
             tally.call(Call::Run, &days, 0, &format!("{name} of the whole series"));
+        }
+    }
+}
+
+/// What any call of a series is handed.
+fn for_all_calls(series: &(Vec<i64>, Vec<f64>), settings: Settings) -> Case {
+    let lent = series.0.len();
+    Case {
+        limit: 200_000.0,
+        indexes: vec![UNSET; lent],
+        lent,
+        time: 1 << 40,
+        merged_timestamps: vec![UNSET as i64; lent],
+        merged_values: vec![UNSET; lent],
+        lent_times: lent,
+        lent_values: lent,
+        ..average(series, settings)
+    }
+}
+
+/// All calls of a series with equal times, which merge alone refuses, and the run under some rollups. The output times
+/// are few, since the window rule goes through all readings for each, and the next reading is a millisecond after.
+fn equal_times(tally: &mut Tally, what: &str, time: fn(i64) -> i64, step: i64) {
+    let (_, values) = counter(MOST);
+    let timestamps = (0..MOST as i64).map(time).collect();
+    let grid = Settings { start: -1, end: 3 * step - 1, step, window: step, ..Settings::default() };
+    let mut series = for_all_calls(&(timestamps, values), grid);
+    for (name, call) in Call::ALL {
+        let number = if call == Call::Merge { 4 } else { 0 };
+        tally.call(call, &series, number, &format!("{name}, {what}"));
+    }
+    for (number, name) in ROLLUPS.iter().enumerate() {
+        if OVER_TIME.contains(name) {
+            series.rollup = number as u32;
+            tally.call(Call::Run, &series, 0, &format!("{name}, {what}"));
         }
     }
 }
