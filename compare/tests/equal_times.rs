@@ -388,8 +388,7 @@ fn the_rule_is_the_rust_where_times_rise() {
 fn half_of_the_calls_have_equal_times() {
     for (_, call) in Call::ALL {
         let repeats = generated(call).filter(|case| case.series().iter().any(|s| repeats(s.0)));
-        let expected = if call == Call::Merge { 2_000..5_000 } else { 9_500..11_500 };
-        assert!(expected.contains(&repeats.count()));
+        assert!((9_000..11_500).contains(&repeats.count()));
     }
 }
 

@@ -1,5 +1,6 @@
 //! Calls of merge: logs that lie apart, interleave, are equal, lie within one another or share a part; times with two
-//! values; result slices of every length that matters; rows that either series offends, the 4th often by equal times.
+//! values; result slices of every length that matters; rows that either series offends, the 4th in half of them by equal
+//! times.
 
 use super::cases::{place, spoil_series, MOST};
 use super::{equal_times, floats, series};
@@ -18,9 +19,10 @@ pub fn case(rng: &mut Rng) -> Case {
         let (row, place) = (rng.below(4), place(rng, series.0));
         spoil_series(rng, row, place, series, 0);
     }
-    if rng.once_in(8) {
+    if rng.once_in(2) {
         let [(first, _), (second, _)] = case.series_mut();
-        let timestamps = if rng.once_in(2) { first } else { second };
+        let of_first = second.len() < 2 || first.len() > 1 && rng.once_in(2);
+        let timestamps = if of_first { first } else { second };
         if !timestamps.is_empty() {
             equal_times::once(rng, timestamps);
         }
