@@ -32,7 +32,7 @@ pub fn make(rng: &mut Rng, list: &mut List) {
         let (timestamps, values) = series::for_step(rng, step, n);
         accepted(rng, list, step, &timestamps, &values, 12);
     }
-    // Windows of zeros, where all three departures come into play.
+    // Windows of zeros, where the departures of a rollup come into play.
     for _ in 0..10 {
         let n = rng.between(2, 9) as usize;
         let timestamps = series::times(rng, n);
