@@ -13,11 +13,11 @@ use std::io::{self, Read};
 use vectors::{Cursor, Unread};
 
 // The bytes of the longest list that is read.
-const LONGEST: u64 = 0x20_0000;
+const LONGEST: u64 = 0x40_0000;
 
 // Reads a list until it ends, or LONGEST bytes of it.
 pub fn read<R: Read + Drop>(list: R, alloc: Global) -> io::Result<Vec<u8>>
-    ensures { IfOk result (λ text. IfSome (R.remaining list) (λ bytes. text.items ≡ take (2 ^ 21) bytes)) }
+    ensures { IfOk result (λ text. IfSome (R.remaining list) (λ bytes. text.items ≡ take (2 ^ 22) bytes)) }
 {
     let mut text = Vec::new(alloc);
     list.take(LONGEST).read_to_end(&mut text)?;

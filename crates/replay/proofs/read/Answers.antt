@@ -4,4 +4,4 @@ use Rattle.replay.proofs.Taken.{first_of}
 use Rattle.replay.proofs.read.Goals as goal
 
 pub returns : goal.returns
-returns g c = first_of _ _ 2097152 _ c.take.ensures.limit (rw (c.new-text.ensures.items, c.take.ensures.inner) at c.in_ok-read_to_end.ensures.bytes)
+returns g c = first_of _ _ 4194304 _ c.take.ensures.limit (rw (c.new-text.ensures.items, c.take.ensures.inner) at c.in_ok-read_to_end.ensures.bytes)
