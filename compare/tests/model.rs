@@ -935,7 +935,8 @@ fn shared(case: &Case) -> Vec<[u64; 2]> {
 #[test]
 fn conflicts_of_every_kind_are_asked() {
     let mut rng = Rng::new(1);
-    let cases = (0..20_000).map(|_| cases::case(&mut rng, Call::Merge, None));
+    // Half of them are refused for equal times.
+    let cases = (0..60_000).map(|_| cases::case(&mut rng, Call::Merge, None));
     let refused: Vec<_> = cases
         .filter(|case| rows::refusal(Call::Merge, case) == Some((17, 0)))
         .map(|case| shared(&case))
