@@ -1,9 +1,7 @@
 //! The outcome of a call as the Rust, or the model, and docs/REFUSALS.md have it.
 
-use original::exposed::Settings;
-
 use crate::call::{Call, Case, Outcome};
-use crate::judge::{self, Run};
+use crate::judge::{self, Asked, Run};
 use crate::words::all_bits;
 use crate::{model, rows, window};
 
@@ -39,9 +37,6 @@ pub fn outcome(call: Call, case: &Case) -> Outcome {
     outcome
 }
 
-/// A run as it is judged, or as the Rust has it.
-type Judge = fn(&Settings, usize, f64, f64, &[f64], &[i64]) -> Run;
-
 fn run(call: Call, case: &Case, outcome: &mut Outcome) {
     let values = prepared(case);
     let run = run_by(judge::run, call, case, &values);
@@ -51,13 +46,20 @@ fn run(call: Call, case: &Case, outcome: &mut Outcome) {
     write(&mut outcome.work, &vec![0; 2 * values.len()]);
 }
 
-fn run_by(judge: Judge, call: Call, case: &Case, values: &[f64]) -> Run {
+/// The run as it is judged, or as the Rust has it.
+fn run_by(judge: fn(Asked) -> Run, call: Call, case: &Case, values: &[f64]) -> Run {
     let settings = match call {
         Call::SettledRun => judge::settled(&case.settings, case.settings.window, case.reach),
         _ => case.settings.clone(),
     };
-    let rollup = case.rollup as usize;
-    judge(&settings, rollup, case.first, case.second, values, &case.timestamps)
+    judge(Asked {
+        settings: &settings,
+        number: case.rollup as usize,
+        first: case.first,
+        second: case.second,
+        values,
+        timestamps: &case.timestamps,
+    })
 }
 
 /// Whether the Rust's own run has the answers and the count of this outcome, where it is an accepted run of a series

@@ -7,7 +7,7 @@ use std::collections::BTreeMap;
 
 use compare::call::{Call, Case, Outcome, UNSET};
 use compare::inputs::cases;
-use compare::judge::{self, ROLLUPS, STEPS};
+use compare::judge::{self, Asked, Run, ROLLUPS, STEPS};
 use compare::rng::Rng;
 use compare::window::{repeats, Window};
 use compare::words::{all_bits, bits};
@@ -376,8 +376,16 @@ fn the_rule_is_the_rust_where_times_rise() {
     for case in accepted(Call::Run).filter(|case| !repeats(&case.timestamps)) {
         let values = oracle::prepared(&case);
         let Case { settings, first, second, timestamps, .. } = case;
-        let run = |judge: fn(&Settings, usize, f64, f64, &[f64], &[i64]) -> judge::Run| {
-            let run = judge(&settings, case.rollup as usize, first, second, &values, &timestamps);
+        let asked = Asked {
+            settings: &settings,
+            number: case.rollup as usize,
+            first,
+            second,
+            values: &values,
+            timestamps: &timestamps,
+        };
+        let run = |judge: fn(Asked) -> Run| {
+            let run = judge(asked);
             (all_bits(&run.answers), run.departed, run.count)
         };
         assert_eq!(run(judge::by_the_rule), run(judge::by_the_rust));

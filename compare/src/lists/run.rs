@@ -5,7 +5,7 @@ use original::exposed::Settings;
 use super::{mask, setting_words};
 use crate::call::{Call, Case};
 use crate::inputs::{cases, equal_times, floats, series, settings};
-use crate::judge::ROLLUPS;
+use crate::judge::{Asked, Run, ROLLUPS};
 use crate::rng::Rng;
 use crate::words::{all_bits, bits, times, List};
 use crate::{judge, rows};
@@ -98,9 +98,9 @@ fn put(
     let mut prepared = values.to_vec();
     judge::prepare(step, timestamps, &mut prepared);
     let (window, reach) = judge::settle(s, timestamps);
-    let runs: Vec<judge::Run> = (0..ROLLUPS.len())
-        .map(|k| judge::run(s, k, first, second, &prepared, timestamps))
-        .collect();
+    let asked =
+        |number| Asked { settings: s, number, first, second, values: &prepared, timestamps };
+    let runs: Vec<Run> = (0..ROLLUPS.len()).map(|number| judge::run(asked(number))).collect();
 
     let mut words = given(step as u64, first, second, timestamps, &all_bits(values), s);
     words.extend([window as u64, reach as u64, runs[0].count]);

@@ -5,30 +5,17 @@ use harzoulin::{Refusal, Rollup, Settings, Step, Workspace, crossings, merge, ne
 const TIMES: [i64; 4] = [1000, 2000, 2000, 3000];
 const VALUES: [f64; 4] = [1.0, 2.0, 3.0, 4.0];
 
-/// Windows of a second.
-const SETTINGS: Settings = Settings {
-    start: 1000,
-    end: 3000,
-    step: 1000,
-    window: 0,
-    may_adjust_window: false,
-    is_default_rollup: false,
-    lookback_delta: 0,
-    min_staleness_interval: 0,
-    max_points_per_series: 0,
-    samples_scanned_per_call: 0,
-};
-
-/// The bits of the figures.
+/// The bits of the figures over windows of a second.
 #[track_caller]
-fn figures(times: &[i64], values: &[f64], pre: Step, rollup: Rollup) -> Vec<u64> {
+fn figures(times: &[i64], values: &[f64], rollup: Rollup) -> Vec<u64> {
+    let settings = Settings { start: 1000, end: 3000, step: 1000, ..Settings::default() };
     let mut workspace = Workspace::new();
-    let run = workspace.run(times, values, pre, rollup, &SETTINGS).unwrap();
-    let figures = run.values.to_vec();
-    let settled = SETTINGS.settled(settle(times, &SETTINGS).unwrap());
-    let again = workspace.settled_run(times, values, pre, rollup, &settled).unwrap();
-    assert_eq!(bits(again.values), bits(&figures));
-    bits(&figures)
+    let run = workspace.run(times, values, Step::None, rollup, &settings).unwrap();
+    let figures = bits(run.values);
+    let settled = settings.settled(settle(times, &settings).unwrap());
+    let again = workspace.settled_run(times, values, Step::None, rollup, &settled).unwrap();
+    assert_eq!(bits(again.values), figures);
+    figures
 }
 
 fn bits(figures: &[f64]) -> Vec<u64> {
@@ -39,7 +26,7 @@ fn bits(figures: &[f64]) -> Vec<u64> {
 /// predecessor of what follows, the first is the next reading of what is before.
 #[test]
 fn the_window() {
-    let of = |rollup| figures(&TIMES, &VALUES, Step::None, rollup);
+    let of = |rollup| figures(&TIMES, &VALUES, rollup);
     assert_eq!(of(Rollup::Count), bits(&[1.0, 2.0, 1.0]));
     assert_eq!(of(Rollup::First), bits(&[1.0, 2.0, 4.0]));
     assert_eq!(of(Rollup::Default), bits(&[1.0, 3.0, 4.0]));
@@ -52,7 +39,7 @@ fn the_window() {
 fn all_of_one_time() {
     for readings in [2, 16, 17, 50, 1000] {
         let (times, values) = (vec![2000; readings], vec![0.5; readings]);
-        let counts = figures(&times, &values, Step::None, Rollup::Count);
+        let counts = figures(&times, &values, Rollup::Count);
         assert_eq!(counts, bits(&[f64::NAN, readings as f64, f64::NAN]));
         for time in [0, 2000, 4000] {
             assert_eq!(nearest(&times, time), Ok(Some(0)));
@@ -68,9 +55,9 @@ fn over_no_seconds() {
         ([3.0, 1.0], f64::NEG_INFINITY.to_bits()),
         ([2.0, 2.0], 0x7ff8_0000_0000_0000),
     ] {
-        let slopes = figures(&[1000, 1000], &[first, last], Step::None, Rollup::DerivFast);
+        let slopes = figures(&[1000, 1000], &[first, last], Rollup::DerivFast);
         assert_eq!(slopes[0], slope);
-        let slopes = figures(&[1000, 1000], &[first, last], Step::None, Rollup::Ideriv);
+        let slopes = figures(&[1000, 1000], &[first, last], Rollup::Ideriv);
         assert_eq!(slopes[0], 0);
     }
     let prepared =
