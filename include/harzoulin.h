@@ -2,7 +2,8 @@
  *
  * A slice is a pointer and a length, the number of its entries. Times are milliseconds. A value is
  * the 64 bits of a binary64, so an array of doubles may be handed where a uint64_t * is asked; a
- * NaN that is written is 0x7FF8000000000000.
+ * NaN that is written is 0x7FF8000000000000, but for the staleness mark, HARZOULIN_STALE, which the
+ * two runs take as a value and default may answer.
  *
  * Each function returns one of enum harzoulin_refusal and sets *index: the first offending reading,
  * counted from 0, for refusals 3 to 5, else 0. Of harzoulin_nearest 3 with index 0 may also be of
@@ -27,6 +28,10 @@
 extern "C" {
 #endif
 
+/* The staleness mark, which Prometheus writes as the value of a series that went away. It is a NaN,
+ * so it is told by its bits, and kept as bits where a double might be changed on its way. */
+#define HARZOULIN_STALE UINT64_C(0x7FF0000000000002)
+
 /* The preparing steps, for pre. Of the two that add a counter's restarts back, RESETS_ONCE corrects
  * each restart once; RESETS, the original's, corrects it again at each later value that is still
  * below the one before it as corrected. */
@@ -41,7 +46,9 @@ enum harzoulin_step {
 
 /* The rollups of docs/ROLLUPS.md, for rollup. UNTIL_NEXT, which the original does not have, is the
  * seconds from an output time to the first reading after it, whatever the window holds, and NaN
- * where there is none. */
+ * where there is none. DEFAULT and STALE_SAMPLES see staleness marks: DEFAULT answers a window's last
+ * value, with the bits of the mark where it is one, STALE_SAMPLES how many marks the window holds. For
+ * all others the marks and their times are taken out of the series first. */
 enum harzoulin_rollup {
     HARZOULIN_ROLLUP_AVG = 0,
     HARZOULIN_ROLLUP_MIN = 1,
@@ -91,7 +98,8 @@ enum harzoulin_rollup {
     HARZOULIN_ROLLUP_QUANTILE = 45,
     HARZOULIN_ROLLUP_PREDICT_LINEAR = 46,
     HARZOULIN_ROLLUP_HOLT_WINTERS = 47,
-    HARZOULIN_ROLLUP_UNTIL_NEXT = 48
+    HARZOULIN_ROLLUP_UNTIL_NEXT = 48,
+    HARZOULIN_ROLLUP_STALE_SAMPLES = 49
 };
 
 /* What a function returns: the lowest number that applies to it, but 28 before all others, and of
@@ -107,7 +115,7 @@ enum harzoulin_refusal {
     HARZOULIN_REFUSED_TIME = 3,
     /* a time below the one before; in a series of harzoulin_merge, a time not above it */
     HARZOULIN_REFUSED_ORDER = 4,
-    /* a value NaN or infinite */
+    /* a value NaN or infinite; in the two runs, HARZOULIN_STALE aside */
     HARZOULIN_REFUSED_VALUE = 5,
     /* step outside 1..2^50 */
     HARZOULIN_REFUSED_STEP = 6,
@@ -124,7 +132,7 @@ enum harzoulin_refusal {
     HARZOULIN_REFUSED_GRID = 11,
     /* dst_values shorter than the grid */
     HARZOULIN_REFUSED_OUTPUT = 12,
-    /* prepared shorter than the series */
+    /* prepared, or in the two runs remaining, shorter than the series */
     HARZOULIN_REFUSED_PREPARED = 13,
     /* work shorter than twice the series */
     HARZOULIN_REFUSED_WORK = 14,
@@ -136,6 +144,8 @@ enum harzoulin_refusal {
     HARZOULIN_REFUSED_CONFLICT = 17,
     /* a result slice of harzoulin_merge shorter than the result */
     HARZOULIN_REFUSED_MERGED = 18,
+    /* default or stale_samples with a preparing step other than none */
+    HARZOULIN_REFUSED_STEP_OF_MARKS = 19,
     /* pre or rollup names none */
     HARZOULIN_REFUSED_CHOICE = 28
 };
@@ -158,14 +168,17 @@ uint64_t harzoulin_settle(const int64_t *timestamps, size_t timestamps_len, int6
                           int64_t *reach, uint64_t *points, uint64_t *index);
 
 /* Writes one value per output time to the first entries of dst_values, and nothing past them.
- * prepared and work are room that the call writes: afterwards the first values_len entries of
- * prepared are the prepared values and the first 2 * values_len of work are +0.0; what lies past
- * them is untouched. *count is set on acceptance only: values_len, and for each output time
+ * A value may be HARZOULIN_STALE. The n remaining readings are those that are no marks, and for the
+ * rollups default and stale_samples all: the call answers as for a series of them alone.
+ * prepared, remaining and work are room that the call writes: afterwards the first n entries of
+ * remaining are the remaining times, the first n of prepared their prepared values and the first
+ * 2 * n of work +0.0; what lies past them is untouched, but each is at least as long as the series
+ * that is handed in, work twice as long. *count is set on acceptance only: n, and for each output time
  * samples_scanned_per_call, or where that is 0 the number of readings in its window.
  * pre is one of enum harzoulin_step, rollup one of enum harzoulin_rollup. first is phi for
  * quantile, the seconds for predict_linear and the smoothing factor for holt_winters, second the
  * trend factor for holt_winters; no other rollup reads them, and no value of them is refused.
- * Refusals: 1 to 14, 28. */
+ * Refusals: 1 to 14, 19, 28. */
 uint64_t harzoulin_run(const int64_t *timestamps, size_t timestamps_len, const uint64_t *values,
                        size_t values_len, uint32_t pre, uint32_t rollup, double first,
                        double second, int64_t start, int64_t end, int64_t step, int64_t window,
@@ -173,18 +186,20 @@ uint64_t harzoulin_run(const int64_t *timestamps, size_t timestamps_len, const u
                        int64_t min_staleness_interval, int64_t max_points_per_series,
                        uint64_t samples_scanned_per_call, uint64_t *dst_values,
                        size_t dst_values_len, uint64_t *prepared, size_t prepared_len,
-                       double *work, size_t work_len, uint64_t *count, uint64_t *index);
+                       int64_t *remaining, size_t remaining_len, double *work, size_t work_len,
+                       uint64_t *count, uint64_t *index);
 
-/* The same with the window and the reach that harzoulin_settle gave. Runs over consecutive parts of
- * a grid write the values of the run over all of it; their counts add up to its count and, for each
- * part but one, values_len. Refusals: 1 to 9, 11 to 14, 28. */
+/* The same with the window and the reach that harzoulin_settle gave, handed the remaining times. Runs
+ * over consecutive parts of a grid write the values of the run over all of it; their counts add up to
+ * its count and, for each part but one, n. Refusals: 1 to 9, 11 to 14, 19, 28. */
 uint64_t harzoulin_settled_run(const int64_t *timestamps, size_t timestamps_len,
                                const uint64_t *values, size_t values_len, uint32_t pre,
                                uint32_t rollup, double first, double second, int64_t start,
                                int64_t end, int64_t step, int64_t window, int64_t reach,
                                uint64_t samples_scanned_per_call, uint64_t *dst_values,
                                size_t dst_values_len, uint64_t *prepared, size_t prepared_len,
-                               double *work, size_t work_len, uint64_t *count, uint64_t *index);
+                               int64_t *remaining, size_t remaining_len, double *work,
+                               size_t work_len, uint64_t *count, uint64_t *index);
 
 /* Writes the index of each reading that lies on the other side of limit from the one before it to
  * the first entries of indexes, in order, and nothing past them. A value below limit is on the one

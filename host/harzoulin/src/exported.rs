@@ -11,6 +11,8 @@ pub enum Values {}
 pub enum Output {}
 /// Lent as the prepared slice.
 pub enum Prepared {}
+/// Lent for the remaining times.
+pub enum Remaining {}
 /// Lent as the work slice.
 pub enum Work {}
 /// Lent for the indexes of crossings.
@@ -55,6 +57,12 @@ impl Output {
 
 impl Prepared {
     pub fn of(slice: &mut [impl Pattern]) -> Slice<*mut Prepared> {
+        Slice { length: slice.len(), pointer: slice.as_mut_ptr().cast() }
+    }
+}
+
+impl Remaining {
+    pub fn of(slice: &mut [i64]) -> Slice<*mut Remaining> {
         Slice { length: slice.len(), pointer: slice.as_mut_ptr().cast() }
     }
 }
@@ -150,6 +158,8 @@ unsafe extern "C" {
         dst_values_len: usize,
         prepared: *mut Prepared,
         prepared_len: usize,
+        remaining: *mut Remaining,
+        remaining_len: usize,
         work: *mut Work,
         work_len: usize,
         count: &mut u64,
@@ -175,6 +185,8 @@ unsafe extern "C" {
         dst_values_len: usize,
         prepared: *mut Prepared,
         prepared_len: usize,
+        remaining: *mut Remaining,
+        remaining_len: usize,
         work: *mut Work,
         work_len: usize,
         count: &mut u64,
