@@ -19,7 +19,7 @@ pub struct Settlement {
 }
 
 // What accepted times and settings settle to.
-fn settle_accepted(times: &AcceptedTimes, rc: RollupConfig) -> Settlement
+pub fn settle_accepted(times: &AcceptedTimes, rc: RollupConfig) -> Settlement
     requires { settings_checked rc ≡ Ok tt }
     ensures { result ≡ settlement times.now.slice.now rc }
 {

@@ -7,25 +7,38 @@ ghost use Rattle.series.specs.Answers.{outcome, reply};
 ghost use Rattle.prepare.specs.Prepare.{prepare_of};
 ghost use Rattle.steps.specs.Steps.{prepared_of};
 
-use series::{AcceptedSeries, Refusal, Series, check_series};
+use series::{AcceptedSeries, AcceptedTimes, Numbers, Refusal, Series, check_series};
 use steps::PreFunction;
 
-// The values of a series after the step, in a slice of their number. A match sees that each step has its pass; the gate takes no
+// The values at times after the step, in a slice of their number. A match sees that each step has its pass; the gate takes no
 // function that hands out another one.
+pub fn apply_to<N: Numbers>(
+    times: &AcceptedTimes,
+    values: &N,
+    pre: PreFunction,
+    prepared: &mut [u64],
+)
+    requires same { length times.now.slice.now ≡ length (N.numbers values.now) }
+    requires room { length prepared.old ≡ length (N.numbers values.now) }
+    ensures { prepared.new ≡ patterns (prepared_of pre times.now.slice.now (N.numbers values.now)) }
+{
+    let timestamps = times.slice;
+    match pre {
+        PreFunction::None => values.write_to(prepared),
+        PreFunction::Resets => steps::remove_counter_resets(values, prepared),
+        PreFunction::Delta => steps::delta_values(values, prepared),
+        PreFunction::Deriv => steps::deriv_values(values, timestamps, prepared),
+        PreFunction::Intervals => steps::calc_sample_intervals_pre_fn(timestamps, prepared),
+        PreFunction::ResetsOnce => steps::remove_counter_resets_once(values, prepared),
+    }
+}
+
+// The values of a series after the step, in a slice of their number.
 pub fn apply(series: &AcceptedSeries, pre: PreFunction, prepared: &mut [u64])
     requires { length prepared.old ≡ length series.now.values.now }
     ensures { prepared.new ≡ patterns (prepared_of pre series.now.timestamps.now (floats series.now.values.now)) }
 {
-    let timestamps = series.timestamps;
-    let values = series.finite_values();
-    match pre {
-        PreFunction::None => prepared.copy_from_slice(series.values),
-        PreFunction::Resets => steps::remove_counter_resets(&values, prepared),
-        PreFunction::Delta => steps::delta_values(&values, prepared),
-        PreFunction::Deriv => steps::deriv_values(&values, timestamps, prepared),
-        PreFunction::Intervals => steps::calc_sample_intervals_pre_fn(timestamps, prepared),
-        PreFunction::ResetsOnce => steps::remove_counter_resets_once(&values, prepared),
-    }
+    apply_to(&series.times(), &series.finite_values(), pre, prepared);
 }
 
 // Writes the values after the step to the prepared slice's first entries, or refuses by rows 1 to 5 and 13 and writes nothing.

@@ -61,6 +61,7 @@ pub fn rollup_of(number: u32, first: f64, second: f64) -> Option<RollupHandler>
         46 => Some(RollupHandler::PredictLinear(first)),
         47 => Some(RollupHandler::HoltWinters(first, second)),
         48 => Some(RollupHandler::UntilNext),
+        49 => Some(RollupHandler::StaleSamples),
         _ => None,
     }
 }

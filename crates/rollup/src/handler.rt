@@ -2,7 +2,7 @@
 
 ghost use Rattle.std.specs.Prelude.{◌≡◌, ◌*◌, drop, length};
 ghost use Rattle.ieee.specs.Patterns.{floats};
-ghost use Rattle.rollup.specs.Eval.{Ready, eval_of, figure_of, scanned_per_call};
+ghost use Rattle.rollup.specs.Eval.{Ready, answers_mark, eval_of, figure_of, scanned_per_call, sees_marks};
 
 use change_rollups::delta::{rollup_delta, rollup_delta_prometheus, rollup_idelta};
 use change_rollups::rollup_fns::{
@@ -23,9 +23,10 @@ use value_rollups::quantiles::rollup_quantile;
 use value_rollups::rollup_fns::{
     rollup_absent, rollup_avg, rollup_count, rollup_default, rollup_distinct, rollup_first,
     rollup_mad, rollup_max, rollup_median, rollup_min, rollup_mode_over_time, rollup_present,
-    rollup_range, rollup_rate_over_sum, rollup_stddev, rollup_stdvar, rollup_sum, rollup_sum2,
+    rollup_range, rollup_rate_over_sum, rollup_stale_samples, rollup_stddev, rollup_stdvar,
+    rollup_sum, rollup_sum2,
 };
-use window::types::RollupFuncArg;
+use window::types::{RollupFuncArg, last_or};
 
 // The rollups, in the order of their numbers (docs/ROLLUPS.md).
 #[derive(Clone, Copy)]
@@ -79,6 +80,7 @@ pub enum RollupHandler {
     PredictLinear(f64),
     HoltWinters(f64, f64),
     UntilNext,
+    StaleSamples,
 }
 
 // The chosen rollup's figure for a window. One arm for each is plainer than a table of functions: the rollups are handed different things,
@@ -92,7 +94,7 @@ fn figure(
     work: &mut [f64],
 ) -> f64
     requires { Ready rfa values.now timestamps.now (length work.old) }
-    ensures { result ≡ figure_of handler rfa (floats values.now) timestamps.now }
+    ensures { result ≡ figure_of handler rfa values.now (floats values.now) timestamps.now }
 {
     let ranged = RangedWindow {
         rfa,
@@ -149,10 +151,31 @@ fn figure(
         RollupHandler::PredictLinear(secs) => rollup_predict_linear(&ranged, secs),
         RollupHandler::HoltWinters(sf, tf) => holt_winters_internal(rfa, values, sf, tf),
         RollupHandler::UntilNext => rollup_until_next(rfa),
+        RollupHandler::StaleSamples => rollup_stale_samples(rfa, values),
     }
 }
 
-// The bits of the chosen rollup's figure for a window, NaN as 0x7FF8000000000000. For n values a rollup is
+// Whether a rollup sees the staleness marks of a series; for the others they are taken out of it.
+pub fn sees_marks(handler: RollupHandler) -> bool
+    ensures { result ≡ sees_marks handler }
+{
+    match handler {
+        RollupHandler::Default | RollupHandler::StaleSamples => true,
+        _ => false,
+    }
+}
+
+// Whether the rollup's answer is a staleness mark: default's, where the last value is one.
+fn answers_mark(handler: RollupHandler, values: &[u64]) -> bool
+    ensures { result ≡ answers_mark handler values.now }
+{
+    match handler {
+        RollupHandler::Default => ieee::is_stale_nan(last_or(values, 0)),
+        _ => false,
+    }
+}
+
+// The bits of the chosen rollup's figure for a window, NaN as 0x7FF8000000000000, but a mark's own. For n values a rollup is
 // lent the first 2 × n entries of the work slice. What it leaves in them is open; the others stay as they are.
 pub fn eval(
     handler: RollupHandler,
@@ -165,6 +188,9 @@ pub fn eval(
     ensures value { result ≡ eval_of handler rfa values.now timestamps.now }
     ensures work_unchanged { drop (2 * length values.now) work.new ≡ drop (2 * length values.now) work.old }
 {
+    if answers_mark(handler, values) {
+        return ieee::STALE_NAN_BITS;
+    }
     let m = 2 * values.len();
     ieee::bits_of(figure(handler, rfa, values, timestamps, &mut work[..m]))
 }
@@ -206,7 +232,8 @@ pub fn rollup_samples_scanned_per_call(handler: RollupHandler) -> usize
         | RollupHandler::Integrate
         | RollupHandler::Quantile(_)
         | RollupHandler::PredictLinear(_)
-        | RollupHandler::HoltWinters(_, _) => 0,
+        | RollupHandler::HoltWinters(_, _)
+        | RollupHandler::StaleSamples => 0,
         RollupHandler::Tfirst
         | RollupHandler::Tlast
         | RollupHandler::Absent

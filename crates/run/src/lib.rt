@@ -6,19 +6,23 @@ ghost use Rattle.std.specs.Prelude.{◌≡◌};
 ghost use Rattle.series.specs.Answers.{outcome, reply};
 ghost use Rattle.run.specs.Run.{lent, run_of, settled_run_of};
 
-use config::settle::settle_settings;
+use config::settle::settle_accepted;
+use marks::{MarkedSeries, check_marked};
 use rollup::handler::RollupHandler;
-use series::{AcceptedSeries, Refusal, Series, check_series};
+use series::{AcceptedTimes, Refusal, Series};
 use settings::course::{Course, settled_course};
-use settings::{RollupConfig, SettledConfig, check_settled};
+use settings::{RollupConfig, SettledConfig, check_settings, check_settled};
 use steps::PreFunction;
 
+mod checks;
 mod execute;
+mod fill;
 
-// The three slices are lent one by one. Of a struct that holds them by `&mut` these functions prove the same, but what harzoulin promises of
+// The four slices are lent one by one. Of a struct that holds them by `&mut` these functions prove the same, but what harzoulin promises of
 // its slices was not proved over such a struct.
 
-// The number of samples counted, and the figures over the grid of rc, with the window and the reach that the series and rc settle to.
+// The number of samples counted, and the figures over the grid of rc, with the window and the reach that the remaining times and rc settle to.
+// All rows are gone through before anything is written, and so before there are remaining times to settle on.
 pub fn run(
     series: &Series,
     pre: PreFunction,
@@ -26,16 +30,32 @@ pub fn run(
     rc: RollupConfig,
     dst_values: &mut [u64],
     prepared: &mut [u64],
+    remaining: &mut [i64],
     work: &mut [f64],
 ) -> Result<u64, Refusal>
-    ensures { outcome (reply result) (lent dst_values.new prepared.new work.new) ≡ run_of series.now.times series.now.values pre handler rc (lent dst_values.old prepared.old work.old) }
+    ensures { outcome (reply result) (lent dst_values.new prepared.new remaining.new work.new) ≡ run_of series.now.times series.now.values pre handler rc (lent dst_values.old prepared.old remaining.old work.old) }
 {
-    check_series(series)?;
-    let accepted = AcceptedSeries {
+    let has_marks = check_marked(series)?;
+    check_settings(rc)?;
+    let marked = MarkedSeries {
         timestamps: series.timestamps,
         values: series.values,
+        has_marks,
     };
-    let settled = settle_settings(&accepted.times(), rc)?;
+    let room = checks::Room {
+        dst_values: dst_values.len(),
+        prepared: prepared.len(),
+        remaining: remaining.len(),
+        work: work.len(),
+    };
+    let points = times::grid::points(rc.start, rc.end, rc.step);
+    checks::check_lent(series.values.len(), points, room)?;
+    checks::check_step(handler, pre)?;
+    let n = fill::fill(&marked, pre, handler, prepared, remaining, work);
+    let times = AcceptedTimes {
+        slice: &remaining[..n],
+    };
+    let settled = settle_accepted(&times, rc);
     let course = Course {
         start: rc.start,
         step: rc.step,
@@ -44,7 +64,14 @@ pub fn run(
         reach: settled.reach,
         samples_scanned_per_call: rc.samples_scanned_per_call,
     };
-    execute::execute_within(&accepted, pre, handler, course, dst_values, prepared, work)
+    Ok(execute::execute(
+        &remaining[..n],
+        &prepared[..n],
+        handler,
+        course,
+        dst_values,
+        work,
+    ))
 }
 
 // The number of samples counted, and the figures over the grid of sc, with the window and the reach that it is given.
@@ -55,23 +82,34 @@ pub fn settled_run(
     sc: SettledConfig,
     dst_values: &mut [u64],
     prepared: &mut [u64],
+    remaining: &mut [i64],
     work: &mut [f64],
 ) -> Result<u64, Refusal>
-    ensures { outcome (reply result) (lent dst_values.new prepared.new work.new) ≡ settled_run_of series.now.times series.now.values pre handler sc (lent dst_values.old prepared.old work.old) }
+    ensures { outcome (reply result) (lent dst_values.new prepared.new remaining.new work.new) ≡ settled_run_of series.now.times series.now.values pre handler sc (lent dst_values.old prepared.old remaining.old work.old) }
 {
-    check_series(series)?;
-    let accepted = AcceptedSeries {
+    let has_marks = check_marked(series)?;
+    check_settled(sc)?;
+    let marked = MarkedSeries {
         timestamps: series.timestamps,
         values: series.values,
+        has_marks,
     };
-    check_settled(sc)?;
-    execute::execute_within(
-        &accepted,
-        pre,
+    let room = checks::Room {
+        dst_values: dst_values.len(),
+        prepared: prepared.len(),
+        remaining: remaining.len(),
+        work: work.len(),
+    };
+    let course = settled_course(sc);
+    checks::check_lent(series.values.len(), course.points, room)?;
+    checks::check_step(handler, pre)?;
+    let n = fill::fill(&marked, pre, handler, prepared, remaining, work);
+    Ok(execute::execute(
+        &remaining[..n],
+        &prepared[..n],
         handler,
-        settled_course(sc),
+        course,
         dst_values,
-        prepared,
         work,
-    )
+    ))
 }

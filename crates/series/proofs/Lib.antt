@@ -3,3 +3,4 @@ pub mod Accepted
 pub mod All
 pub mod Offending
 pub mod Falls
+pub mod Patterns

@@ -10,4 +10,4 @@ mod values;
 pub use checks::{MAX_READINGS, check_inside, check_rising, check_series, check_times, is_inside};
 pub use refusal::Refusal;
 pub use slices::{AcceptedSeries, AcceptedTimes, Series};
-pub use values::FiniteValues;
+pub use values::{FiniteNumbers, FiniteValues, Numbers};

@@ -5,8 +5,8 @@ use mathlib.Core.Path.{◌≡◌, refl}
 use mathlib.Core.Bool.{Bool, true, false}
 use mathlib.Core.List.{List}
 use lib.ListN.{length, get_or, set, drop, drop_of_length-le}
-use lib.Ieee.{Float, binary64, of_bits, to_bits}
-use Rattle.ieee.specs.Patterns.{floats, patterns}
+use lib.Ieee.{Float, binary64, nan, to_bits}
+use Rattle.ieee.specs.Patterns.{patterns}
 use Rattle.series.proofs.All.{Finite, Number}
 use Rattle.steps.specs.declared.Counter.{Counter}
 use Rattle.steps.specs.Steps.{begun, counted, counter_after_either, outputs_from}
@@ -30,15 +30,15 @@ begins : (again : Bool) → Sound (compared again begun) begun
 begins true = begun-sound
 begins false = begun-sound
 
-module _ (again : Bool) (values : List ℕ) where
+module _ (again : Bool) (values : List Float) where
   -- the outputs of all values
   abbrev outputs : List ℕ
-  outputs = patterns (outputs_from (counter_after_either again) begun (floats values))
+  outputs = patterns (outputs_from (counter_after_either again) begun values)
 
   -- i values are done, and led to a state
   pub record Counting (i : ℕ) (prepared : List ℕ) (s : Counter) : Type 0 where
     pub sound : Sound (compared again s) s
-    pub written : Written (length values) i prepared (patterns (outputs_from (counter_after_either again) s (floats (drop i values)))) outputs
+    pub written : Written (length values) i prepared (patterns (outputs_from (counter_after_either again) s (drop i values))) outputs
 
   pub counting-begins : {prepared : List ℕ} {s : Counter} → s ≡ begun → length prepared ≡ length values → Counting 0 prepared s
   counting-begins is-begun e = rw is-begun record { sound = begins again; written = record { size = e; parts = refl } }
@@ -50,11 +50,11 @@ module _ (again : Bool) (values : List ℕ) where
     pub counting-number : Number t.output
     counting-number = next-sound.number
 
-    pub counting-turn : {b : ℕ} → i < length values → v ≡ of_bits binary64 (get_or values i 0) → b ≡ to_bits binary64 t.output → Counting (i + 1) (set prepared i b) t
-    unfolding floats outputs_from
+    pub counting-turn : {b : ℕ} → i < length values → v ≡ get_or values i nan → b ≡ to_bits binary64 t.output → Counting (i + 1) (set prepared i b) t
+    unfolding outputs_from
     counting-turn h is-value is-pattern =
-        record { sound = next-sound; written = turn h (rw (left_at values i 0 h, ← is-value, ← is-next) at w.written) is-pattern }
+        record { sound = next-sound; written = turn h (rw (left_at values i nan h, ← is-value, ← is-next) at w.written) is-pattern }
 
   pub counting-done : {i : ℕ} {prepared : List ℕ} {s : Counter} → length values ≤ i → Counting i prepared s → prepared ≡ outputs
-  unfolding floats outputs_from
+  unfolding outputs_from
   counting-done {i} h w = done h (rw (drop_of_length-le values {i = i} h) at w.written)

@@ -4,14 +4,14 @@
 mod choice;
 
 ghost use Rattle.std.specs.Prelude.{◌≡◌, Bool, true, false, length};
-ghost use Rattle.ieee.specs.Patterns.{floats, patterns};
+ghost use Rattle.ieee.specs.Patterns.{patterns};
 ghost use Rattle.times.specs.Milli.{time_limit, Within};
 ghost use Rattle.times.specs.Leading.{leading};
 ghost use Rattle.series.specs.Rows.{time_inside};
 ghost use Rattle.steps.specs.Steps.{begun, corrected, counter_after, counter_after_either, counter_after_once, grown, outputs_from, resets, resets_once, deltas, sloped, derivs, whole_seconds, intervals};
 
 pub use choice::step_of;
-use series::FiniteValues;
+use series::Numbers;
 
 // What is done to a series' values before they are rolled up.
 #[derive(Clone, Copy)]
@@ -140,46 +140,46 @@ impl CounterStep for CorrectedOnce {
 // Each value's output under a counter step. As in the other steps the value at an index is read and its place written: one index is plainer
 // than `zip` and `iter_mut` with what is known of the values beside them. The slice that is written has the length of the one that is read, which
 // each clause asks: a struct of both would hold a `&mut`, as in run.
-fn correct<S: CounterStep>(values: &FiniteValues, prepared: &mut [u64])
-    requires { length prepared.old ≡ length values.now.slice.now }
-    ensures { prepared.new ≡ patterns (outputs_from (counter_after_either S.again) begun (floats values.now.slice.now)) }
+fn correct<S: CounterStep, N: Numbers>(values: &N, prepared: &mut [u64])
+    requires { length prepared.old ≡ length (N.numbers values.now) }
+    ensures { prepared.new ≡ patterns (outputs_from (counter_after_either S.again) begun (N.numbers values.now)) }
 {
     let mut counter = Counter::new();
-    for i in 0..values.slice.len() {
-        counter = S::next(counter, values.number_at(i));
+    for i in 0..values.count() {
+        counter = S::next(counter, values.at(i));
         prepared[i] = ieee::number_bits(counter.output);
     }
 }
 
 // Each value with the counter's resets added back.
-pub fn remove_counter_resets(values: &FiniteValues, prepared: &mut [u64])
-    requires { length prepared.old ≡ length values.now.slice.now }
-    ensures { prepared.new ≡ patterns (resets (floats values.now.slice.now)) }
+pub fn remove_counter_resets<N: Numbers>(values: &N, prepared: &mut [u64])
+    requires { length prepared.old ≡ length (N.numbers values.now) }
+    ensures { prepared.new ≡ patterns (resets (N.numbers values.now)) }
 {
-    correct::<CorrectedAgain>(values, prepared);
+    correct::<CorrectedAgain, N>(values, prepared);
 }
 
 // Each value with the counter's resets added back, each restart once.
-pub fn remove_counter_resets_once(values: &FiniteValues, prepared: &mut [u64])
-    requires { length prepared.old ≡ length values.now.slice.now }
-    ensures { prepared.new ≡ patterns (resets_once (floats values.now.slice.now)) }
+pub fn remove_counter_resets_once<N: Numbers>(values: &N, prepared: &mut [u64])
+    requires { length prepared.old ≡ length (N.numbers values.now) }
+    ensures { prepared.new ≡ patterns (resets_once (N.numbers values.now)) }
 {
-    correct::<CorrectedOnce>(values, prepared);
+    correct::<CorrectedOnce, N>(values, prepared);
 }
 
 // Each value's step to the next; the last step twice.
-pub fn delta_values(values: &FiniteValues, prepared: &mut [u64])
-    requires { length prepared.old ≡ length values.now.slice.now }
-    ensures { prepared.new ≡ patterns (deltas (floats values.now.slice.now)) }
+pub fn delta_values<N: Numbers>(values: &N, prepared: &mut [u64])
+    requires { length prepared.old ≡ length (N.numbers values.now) }
+    ensures { prepared.new ≡ patterns (deltas (N.numbers values.now)) }
 {
-    if values.slice.len() == 0 {
+    if values.count() == 0 {
         return;
     }
     let mut prev_delta = 0.0;
-    let mut prev_value = values.number_at(0);
-    let last = values.slice.len() - 1;
+    let mut prev_value = values.at(0);
+    let last = values.count() - 1;
     for j in 0..last {
-        let v = values.number_at(j + 1);
+        let v = values.at(j + 1);
         prev_delta = v - prev_value;
         prepared[j] = ieee::number_bits(prev_delta);
         prev_value = v;
@@ -206,21 +206,21 @@ impl Slope {
 }
 
 // Each value's slope to the next, per second; the last slope twice.
-pub fn deriv_values(values: &FiniteValues, timestamps: &[i64], prepared: &mut [u64])
-    requires { (length timestamps.now ≡ length values.now.slice.now) × (length prepared.old ≡ length values.now.slice.now) × (leading time_inside timestamps.now ≡ length timestamps.now) }
-    ensures { prepared.new ≡ patterns (derivs timestamps.now (floats values.now.slice.now)) }
+pub fn deriv_values<N: Numbers>(values: &N, timestamps: &[i64], prepared: &mut [u64])
+    requires { (length timestamps.now ≡ length (N.numbers values.now)) × (length prepared.old ≡ length (N.numbers values.now)) × (leading time_inside timestamps.now ≡ length timestamps.now) }
+    ensures { prepared.new ≡ patterns (derivs timestamps.now (N.numbers values.now)) }
 {
-    if values.slice.len() == 0 {
+    if values.count() == 0 {
         return;
     }
     let mut slope = Slope {
         deriv: 0.0,
-        value: values.number_at(0),
+        value: values.at(0),
         ts: timestamps[0],
     };
-    let last = values.slice.len() - 1;
+    let last = values.count() - 1;
     for j in 0..last {
-        slope = slope.next(values.number_at(j + 1), timestamps[j + 1]);
+        slope = slope.next(values.at(j + 1), timestamps[j + 1]);
         prepared[j] = ieee::bits_of(slope.deriv);
     }
     prepared[last] = ieee::bits_of(slope.deriv);

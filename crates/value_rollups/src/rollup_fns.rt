@@ -9,7 +9,7 @@ ghost use Rattle.math.specs.Mode.{mode_of};
 ghost use Rattle.quantile.specs.Quantile.{mad_of, median_of};
 ghost use Rattle.ieee.specs.Patterns.{floats};
 ghost use Rattle.window.specs.Window.{beyond, first_of, further, last_of};
-ghost use Rattle.value_rollups.specs.RollupFns.{absent_of, avg_of, count_of, distinct_from, distinct_of, max_of, min_of, present_of, range_of, rate_over_sum_of, sum2_of, sum_of, total_of};
+ghost use Rattle.value_rollups.specs.RollupFns.{absent_of, avg_of, count_of, distinct_from, distinct_of, max_of, min_of, present_of, range_of, rate_over_sum_of, stale_samples_of, sum2_of, sum_of, total_of};
 
 use ieee::nan;
 use window::types::{RollupFuncArg, first, last, rest};
@@ -165,6 +165,22 @@ pub fn rollup_count(rfa: RollupFuncArg, values: &[u64]) -> f64
         return nan();
     }
     ieee::of_count(values.len())
+}
+
+// How many values are staleness marks.
+pub fn rollup_stale_samples(rfa: RollupFuncArg, values: &[u64]) -> f64
+    ensures { result ≡ stale_samples_of values.now }
+{
+    if values.len() == 0 {
+        return nan();
+    }
+    let mut marks = 0;
+    for i in 0..values.len() {
+        if ieee::is_stale_nan(values[i]) {
+            marks += 1;
+        }
+    }
+    ieee::of_count(marks)
 }
 
 pub fn rollup_stddev(rfa: RollupFuncArg, values: &[u64]) -> f64

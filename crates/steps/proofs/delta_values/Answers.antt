@@ -5,10 +5,9 @@ use mathlib.Core.Path.{◌≡◌, refl}
 use mathlib.Core.Bool.{true, false}
 use native.Mathlib.Omega.{arith}
 use borrow.Author.Rules.{rules}
-use lib.ListN.{length, drop_of_length-le}
-use lib.Ieee.{Float, binary64, is_nan, of_bits, sub}
+use lib.ListN.{drop_of_length-le}
+use lib.Ieee.{Float, binary64, is_nan, nan, of_bits, sub}
 use lib.Ieee.Scale.{finite}
-use Rattle.ieee.specs.Patterns.{floats}
 use Rattle.steps.specs.Steps.{deltas, deltas_from}
 use Rattle.ieee.proofs.Numbers.{finite_number, sub_number}
 use Rattle.times.proofs.Written.{turn, last, left_at}
@@ -18,29 +17,29 @@ use Rattle.steps.proofs.delta_values.Goals as goal
 difference : (v p : Float) → finite v ≡ true → finite p ≡ true → is_nan (sub binary64 v p) ≡ false
 difference v p h k = sub_number binary64 v p (finite_number v h) k
 
-pub returns-then-values-eq0 : goal.returns-then-values-eq0
-unfolding floats deltas
-returns-then-values-eq0 c =
+pub returns-then-count-eq0 : goal.returns-then-count-eq0
+unfolding deltas
+returns-then-count-eq0 g c =
     let args = c.args in
-    rw (drop_of_length-le args.values.now.slice.now {i = 0} (omega arith), drop_of_length-le args.prepared.now {i = 0} (omega arith))
+    rw (drop_of_length-le (g.N.Numbers.numbers c.args.values.now) {i = 0} (omega arith), drop_of_length-le args.prepared.now {i = 0} (omega arith))
 
 pub loop-j-init : goal.loop-j-init
-unfolding floats deltas of_bits is_nan
-loop-j-init c =
-    (search rules, c.number_at-prev_value.ensures.1, refl, record { size = c.requires; parts = rw (c.number_at-prev_value.ensures.0, left_at c.args.values.now.slice.now 0 0 (omega arith)) })
+unfolding deltas of_bits is_nan
+loop-j-init g c =
+    (search rules, c.at-prev_value.ensures.1, refl, record { size = c.requires; parts = rw (c.at-prev_value.ensures.0, left_at (g.N.Numbers.numbers c.args.values.now) 0 nan (omega arith)) })
 
 pub number_bits-requires : goal.number_bits-requires
-number_bits-requires c = difference _ _ c.number_at-v.ensures.1 c.loop-j.invariant.1
+number_bits-requires g c = difference _ _ c.at-v.ensures.1 c.loop-j.invariant.1
 
 pub loop-j-preserved : goal.loop-j-preserved
-unfolding floats deltas_from
-loop-j-preserved c =
-    let left = left_at c.args.values.now.slice.now (c.loop-j.j + 1) 0 (omega arith) in
-    (search rules, c.number_at-v.ensures.1, difference _ _ c.number_at-v.ensures.1 c.loop-j.invariant.1, turn (omega arith) (rw (left, ← c.number_at-v.ensures.0) at c.loop-j.invariant.3) c.number_bits.ensures)
+unfolding deltas_from
+loop-j-preserved g c =
+    let left = left_at (g.N.Numbers.numbers c.args.values.now) (c.loop-j.j + 1) nan (omega arith) in
+    (search rules, c.at-v.ensures.1, difference _ _ c.at-v.ensures.1 c.loop-j.invariant.1, turn (omega arith) (rw (left, ← c.at-v.ensures.0) at c.loop-j.invariant.3) c.number_bits.ensures)
 
 pub returns : goal.returns
-unfolding floats deltas_from
-returns c =
-    let none = drop_of_length-le c.args.values.now.slice.now {i = c.loop-j.j + 1} (omega arith) in
-    let end : length c.args.values.now.slice.now - 1 ≡ c.loop-j.j = omega arith in
+unfolding deltas_from
+returns g c =
+    let none = drop_of_length-le (g.N.Numbers.numbers c.args.values.now) {i = c.loop-j.j + 1} (omega arith) in
+    let end : c.count-last.result - 1 ≡ c.loop-j.j = omega arith in
     rw end (last (omega arith) (omega arith) (rw none at c.loop-j.invariant.3) c.number_bits-2.ensures)

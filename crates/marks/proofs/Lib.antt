@@ -1,0 +1,3 @@
+pub mod Remaining
+pub mod Rows
+pub mod Taken
