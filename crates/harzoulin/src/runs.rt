@@ -43,11 +43,12 @@ pub fn harzoulin_run(
     samples_scanned_per_call: u64,
     dst_values: &mut [u64],
     prepared: &mut [u64],
+    remaining: &mut [i64],
     work: &mut [f64],
     count: &mut u64,
     index: &mut u64,
 ) -> u64
-    ensures { exported result index.new count.new (lent dst_values.new prepared.new work.new) ≡ crossed (numbered_run (choice_of (step_of pre) (rollup_of rollup first second)) timestamps.now values.now (config_of start end step window may_adjust_window is_default_rollup lookback_delta min_staleness_interval max_points_per_series samples_scanned_per_call) (lent dst_values.old prepared.old work.old)) count.old }
+    ensures { exported result index.new count.new (lent dst_values.new prepared.new remaining.new work.new) ≡ crossed (numbered_run (choice_of (step_of pre) (rollup_of rollup first second)) timestamps.now values.now (config_of start end step window may_adjust_window is_default_rollup lookback_delta min_staleness_interval max_points_per_series samples_scanned_per_call) (lent dst_values.old prepared.old remaining.old work.old)) count.old }
 {
     let Some((named, handler)) = choose(pre, rollup, first, second) else {
         return refuse(Refusal::UnknownNumber, index);
@@ -65,7 +66,9 @@ pub fn harzoulin_run(
         samples_scanned_per_call,
     };
     let series = Series { timestamps, values };
-    let figures = run::run(&series, named, handler, rc, dst_values, prepared, work);
+    let figures = run::run(
+        &series, named, handler, rc, dst_values, prepared, remaining, work,
+    );
     answered(figures, count, index)
 }
 
@@ -84,11 +87,12 @@ pub fn harzoulin_settled_run(
     samples_scanned_per_call: u64,
     dst_values: &mut [u64],
     prepared: &mut [u64],
+    remaining: &mut [i64],
     work: &mut [f64],
     count: &mut u64,
     index: &mut u64,
 ) -> u64
-    ensures { exported result index.new count.new (lent dst_values.new prepared.new work.new) ≡ crossed (numbered_settled_run (choice_of (step_of pre) (rollup_of rollup first second)) timestamps.now values.now (settled_config_of start end step window reach samples_scanned_per_call) (lent dst_values.old prepared.old work.old)) count.old }
+    ensures { exported result index.new count.new (lent dst_values.new prepared.new remaining.new work.new) ≡ crossed (numbered_settled_run (choice_of (step_of pre) (rollup_of rollup first second)) timestamps.now values.now (settled_config_of start end step window reach samples_scanned_per_call) (lent dst_values.old prepared.old remaining.old work.old)) count.old }
 {
     let Some((named, handler)) = choose(pre, rollup, first, second) else {
         return refuse(Refusal::UnknownNumber, index);
@@ -102,6 +106,8 @@ pub fn harzoulin_settled_run(
         samples_scanned_per_call,
     };
     let series = Series { timestamps, values };
-    let figures = run::settled_run(&series, named, handler, sc, dst_values, prepared, work);
+    let figures = run::settled_run(
+        &series, named, handler, sc, dst_values, prepared, remaining, work,
+    );
     answered(figures, count, index)
 }

@@ -28,11 +28,12 @@ pub extern "C" fn harzoulin_run(
     samples_scanned_per_call: u64,
     dst_values: &mut [u64],
     prepared: &mut [u64],
+    remaining: &mut [i64],
     work: &mut [f64],
     count: &mut u64,
     index: &mut u64,
 ) -> u64
-    ensures { exported result index.new count.new (lent dst_values.new prepared.new work.new) ≡ crossed (numbered_run (choice_of (step_of pre) (rollup_of rollup first second)) timestamps.now values.now (config_of start end step window may_adjust_window is_default_rollup lookback_delta min_staleness_interval max_points_per_series samples_scanned_per_call) (lent dst_values.old prepared.old work.old)) count.old }
+    ensures { exported result index.new count.new (lent dst_values.new prepared.new remaining.new work.new) ≡ crossed (numbered_run (choice_of (step_of pre) (rollup_of rollup first second)) timestamps.now values.now (config_of start end step window may_adjust_window is_default_rollup lookback_delta min_staleness_interval max_points_per_series samples_scanned_per_call) (lent dst_values.old prepared.old remaining.old work.old)) count.old }
 {
     harzoulin::runs::harzoulin_run(
         timestamps,
@@ -53,6 +54,7 @@ pub extern "C" fn harzoulin_run(
         samples_scanned_per_call,
         dst_values,
         prepared,
+        remaining,
         work,
         count,
         index,
@@ -75,11 +77,12 @@ pub extern "C" fn harzoulin_settled_run(
     samples_scanned_per_call: u64,
     dst_values: &mut [u64],
     prepared: &mut [u64],
+    remaining: &mut [i64],
     work: &mut [f64],
     count: &mut u64,
     index: &mut u64,
 ) -> u64
-    ensures { exported result index.new count.new (lent dst_values.new prepared.new work.new) ≡ crossed (numbered_settled_run (choice_of (step_of pre) (rollup_of rollup first second)) timestamps.now values.now (settled_config_of start end step window reach samples_scanned_per_call) (lent dst_values.old prepared.old work.old)) count.old }
+    ensures { exported result index.new count.new (lent dst_values.new prepared.new remaining.new work.new) ≡ crossed (numbered_settled_run (choice_of (step_of pre) (rollup_of rollup first second)) timestamps.now values.now (settled_config_of start end step window reach samples_scanned_per_call) (lent dst_values.old prepared.old remaining.old work.old)) count.old }
 {
     harzoulin::runs::harzoulin_settled_run(
         timestamps,
@@ -96,6 +99,7 @@ pub extern "C" fn harzoulin_settled_run(
         samples_scanned_per_call,
         dst_values,
         prepared,
+        remaining,
         work,
         count,
         index,

@@ -1,1 +1,3 @@
 pub mod Passed
+pub mod Filled
+pub mod Kept

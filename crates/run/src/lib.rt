@@ -6,14 +6,12 @@ ghost use Rattle.std.specs.Prelude.{◌≡◌};
 ghost use Rattle.series.specs.Answers.{outcome, reply};
 ghost use Rattle.run.specs.Run.{lent, run_of, settled_run_of};
 
-use config::settle::settle_accepted;
-use marks::{MarkedSeries, check_marked};
 use rollup::handler::RollupHandler;
-use series::{AcceptedTimes, Refusal, Series};
-use settings::course::{Course, settled_course};
-use settings::{RollupConfig, SettledConfig, check_settings, check_settled};
+use series::{Refusal, Series};
+use settings::{RollupConfig, SettledConfig};
 use steps::PreFunction;
 
+mod call;
 mod checks;
 mod execute;
 mod fill;
@@ -22,7 +20,6 @@ mod fill;
 // its slices was not proved over such a struct.
 
 // The number of samples counted, and the figures over the grid of rc, with the window and the reach that the remaining times and rc settle to.
-// All rows are gone through before anything is written, and so before there are remaining times to settle on.
 pub fn run(
     series: &Series,
     pre: PreFunction,
@@ -35,43 +32,7 @@ pub fn run(
 ) -> Result<u64, Refusal>
     ensures { outcome (reply result) (lent dst_values.new prepared.new remaining.new work.new) ≡ run_of series.now.times series.now.values pre handler rc (lent dst_values.old prepared.old remaining.old work.old) }
 {
-    let has_marks = check_marked(series)?;
-    check_settings(rc)?;
-    let marked = MarkedSeries {
-        timestamps: series.timestamps,
-        values: series.values,
-        has_marks,
-    };
-    let room = checks::Room {
-        dst_values: dst_values.len(),
-        prepared: prepared.len(),
-        remaining: remaining.len(),
-        work: work.len(),
-    };
-    let points = times::grid::points(rc.start, rc.end, rc.step);
-    checks::check_lent(series.values.len(), points, room)?;
-    checks::check_step(handler, pre)?;
-    let n = fill::fill(&marked, pre, handler, prepared, remaining, work);
-    let times = AcceptedTimes {
-        slice: &remaining[..n],
-    };
-    let settled = settle_accepted(&times, rc);
-    let course = Course {
-        start: rc.start,
-        step: rc.step,
-        points: settled.points,
-        window: settled.window,
-        reach: settled.reach,
-        samples_scanned_per_call: rc.samples_scanned_per_call,
-    };
-    Ok(execute::execute(
-        &remaining[..n],
-        &prepared[..n],
-        handler,
-        course,
-        dst_values,
-        work,
-    ))
+    call::call(series, pre, handler, rc, dst_values, prepared, remaining, work)
 }
 
 // The number of samples counted, and the figures over the grid of sc, with the window and the reach that it is given.
@@ -87,29 +48,5 @@ pub fn settled_run(
 ) -> Result<u64, Refusal>
     ensures { outcome (reply result) (lent dst_values.new prepared.new remaining.new work.new) ≡ settled_run_of series.now.times series.now.values pre handler sc (lent dst_values.old prepared.old remaining.old work.old) }
 {
-    let has_marks = check_marked(series)?;
-    check_settled(sc)?;
-    let marked = MarkedSeries {
-        timestamps: series.timestamps,
-        values: series.values,
-        has_marks,
-    };
-    let room = checks::Room {
-        dst_values: dst_values.len(),
-        prepared: prepared.len(),
-        remaining: remaining.len(),
-        work: work.len(),
-    };
-    let course = settled_course(sc);
-    checks::check_lent(series.values.len(), course.points, room)?;
-    checks::check_step(handler, pre)?;
-    let n = fill::fill(&marked, pre, handler, prepared, remaining, work);
-    Ok(execute::execute(
-        &remaining[..n],
-        &prepared[..n],
-        handler,
-        course,
-        dst_values,
-        work,
-    ))
+    call::call(series, pre, handler, sc, dst_values, prepared, remaining, work)
 }
