@@ -4,22 +4,19 @@ use mathlib.Core.Path.{◌≡◌, refl, sym, ◌∙◌}
 use mathlib.Core.List.{List, [], ◌∷◌}
 use Prim.Native.Nat.{ℕ, ◌<◌}
 use native.Mathlib.Omega.{arith}
-use lib.ListN.{length, length-map}
-use lib.Ieee.{binary64, of_bits, to_bits}
+use lib.ListN.{length}
 use Rattle.settings.specs.Rows.{settings_checked, settled_settings}
-use Rattle.ieee.specs.Patterns.{floats, patterns}
 use Rattle.series.specs.Refusals.{first_refusal}
-use Rattle.series.specs.Rows.{series_checked}
-use Rattle.steps.specs.Steps.{prepared_of}
 use Rattle.series.specs.Refusals.{Checked}
 use Rattle.std.specs.Prelude.{Ok}
-use Rattle.series.proofs.Accepted.{AllAccept, accepted-series, all-accept}
-use Rattle.steps.proofs.Prepared.{prepared-length}
+use Rattle.series.proofs.Accepted.{AllAccept, all-accept}
 use Rattle.times.specs.Grid.{grid_size}
 use Rattle.times.proofs.GridLaws.{grid-length}
 use Rattle.times.proofs.Readings.{zip_length}
 use Rattle.record.specs.Record.{reading}
-use Rattle.run.specs.Run.{lent_checked, planned, prepared_series, run_checked, settled_checked}
+use Rattle.marks.specs.Marks.{marked_checked}
+use Rattle.run.proofs.Kept.{kept-size}
+use Rattle.run.specs.Run.{call_checked, kept, kept_bits, lent_checked, planned, prepared_series, row19}
 use Rattle.claims.specs.Calls.{Call, Settings, run, settled, accepted, checked, checked_by, output_times, plan, plan_by, returned, returned_by, samples}
 
 -- rows 6 to 11 of each call
@@ -27,16 +24,16 @@ abbrev pub settings_rows : Settings → Checked
 settings_rows (run rc) = settings_checked rc
 settings_rows (settled sc) = settled_settings sc
 
-abbrev points : Settings → ℕ
+abbrev pub points : Settings → ℕ
 points (run rc) = grid_size rc.start rc.end rc.step
 points (settled sc) = grid_size sc.start sc.end sc.step
 
-abbrev rows_by : Call → Settings → List Checked
-rows_by c s = series_checked c.times c.values ∷ settings_rows s ∷ lent_checked (length c.values) (points s) c.lent ∷ []
+abbrev pub rows_by : Call → Settings → List Checked
+rows_by c s = marked_checked c.times c.values ∷ settings_rows s ∷ lent_checked (length c.values) (points s) c.lent ∷ row19 c.handler c.pre ∷ []
 
 module _ (c : Call) where
-  checked-is : checked c ≡ first_refusal (rows_by c c.settings)
-  unfolding run_checked settled_checked
+  pub checked-is : checked c ≡ first_refusal (rows_by c c.settings)
+  unfolding call_checked
   checked-is = go c.settings
     where
       go : (s : Settings) → checked_by c s ≡ first_refusal (rows_by c s)
@@ -62,19 +59,14 @@ module _ (c : Call) where
     rows-accept = all-accept (rows_by c c.settings) (sym checked-is ∙ ok)
 
     pub prepared-samples : length (prepared_series (plan c)) ≡ samples c
-    unfolding floats
     prepared-samples = go c.settings
       where
-        same : length c.times ≡ length (patterns (prepared_of c.pre c.times (floats c.values)))
-        same =
-            let f = (accepted-series c.times c.values rows-accept.0).same_length ∙ sym (length-map c.values (of_bits binary64)) in
-            f
-            ∙ sym (prepared-length c.pre c.times (floats c.values) f)
-            ∙ sym (length-map (prepared_of c.pre c.times (floats c.values)) (to_bits binary64))
+        same : length (kept c.handler c.times c.values).times ≡ length (kept_bits c.pre c.handler c.times c.values)
+        same = sym (kept-size c.times c.values rows-accept.0 c.handler c.pre)
 
-        go : (s : Settings) → length (prepared_series (plan_by c s)) ≡ length c.times
-        go (run rc) = zip_length reading c.times _ same
-        go (settled sc) = zip_length reading c.times _ same
+        go : (s : Settings) → length (prepared_series (plan_by c s)) ≡ samples c
+        go (run rc) = zip_length reading (kept c.handler c.times c.values).times _ same
+        go (settled sc) = zip_length reading (kept c.handler c.times c.values).times _ same
 
     -- a grid has an output time
     pub some-outputs : 0 < length (output_times c)

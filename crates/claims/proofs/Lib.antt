@@ -11,3 +11,5 @@ pub mod Waits
 pub mod Merged
 pub mod Quantile
 mod Examples
+pub mod Marks
+pub mod Unmarked

@@ -1,6 +1,6 @@
 -- A merged series passes rows 1 to 5, and every other row of a call has a higher number.
 -- Assumes nothing.
-use mathlib.Core.Bool.{Bool, true, false, not, ◌||◌}
+use mathlib.Core.Bool.{Bool, true, false, not, ◌&&◌, ◌||◌}
 use mathlib.Core.List.{List, [], ◌∷◌}
 use mathlib.Core.Logic.{inl, inr}
 use mathlib.Core.Path.{◌≡◌, refl}
@@ -19,14 +19,19 @@ use Rattle.merge_series.specs.Call.{distinct_row2, merge_checked, row17, row18, 
 use Rattle.merge_series.specs.Merge.{Series, differ, series_of, together}
 use Rattle.merge_series.proofs.Calls.{merge-series, merge-strict}
 use Rattle.prepare.specs.Prepare.{prepare_checked}
-use Rattle.run.specs.Run.{Lent, lent_checked, row12, row14, run_checked, settled_checked, slices_checked}
+use Rattle.marks.proofs.Rows.{accepted-unmarked}
+use Rattle.marks.specs.Marks.{marked_checked}
+use Rattle.rollup.specs.Eval.{sees_marks}
+use Rattle.rollup.specs.declared.handler.RollupHandler.{RollupHandler}
+use Rattle.steps.specs.declared.PreFunction.{PreFunction}
+use Rattle.run.specs.Run.{Lent, call_checked, is_none, lent_checked, room_checked, row12, row14, row19, run_checked, settled_checked}
 use Rattle.series.specs.Answers.{outcome_of, reply_of}
 use Rattle.series.specs.Refusals.{first_refusal, number_and_index, refused_if}
 use Rattle.series.specs.Rows.{max_readings, row1, row13, row2, row3, row4, row5, series_checked, time_inside, times_checked}
 use Rattle.series.specs.Refusals.{Checked}
 use Rattle.std.specs.Prelude.{Ok, Err}
 use Rattle.series.specs.declared.refusal.Refusal.{Refusal}
-use Rattle.series.specs.declared.refusal.Refusal.TheVariants.{StepOutside, SpanOutside, WindowOutside, SettingOutside, OverPointLimit, TooManyPoints, OutputShort, PreparedShort, WorkShort, LimitNotFinite, IndexesShort, ValuesDiffer, ResultShort}
+use Rattle.series.specs.declared.refusal.Refusal.TheVariants.{StepOutside, SpanOutside, WindowOutside, SettingOutside, OverPointLimit, TooManyPoints, OutputShort, PreparedShort, WorkShort, LimitNotFinite, IndexesShort, ValuesDiffer, ResultShort, StepOfMarks}
 use Rattle.series.proofs.Accepted.{all-accept}
 use Rattle.series.proofs.All.{All}
 use Rattle.settings.specs.Rows.{max_grid_points, outside, over_point_limit, per_call_over, ranges_checked, row6, row7, row8, row9, row10, row11, setting_outside, settings_checked, settled_outside, settled_row8, settled_row9, settled_settings, span_outside}
@@ -101,12 +106,18 @@ late-settled sc =
     )
 
 late-lent : (n m : ℕ) (l : Lent) → Late (lent_checked n m l)
-unfolding slices_checked
+unfolding room_checked
 late-lent n m l =
-    late-first (row12 m (length l.dst) ∷ row13 n (length l.prepared) ∷ row14 n (length l.work) ∷ []) (
+    late-first (row12 m (length l.dst) ∷ row13 n (length l.prepared) ∷ row13 n (length l.remaining) ∷ row14 n (length l.work) ∷ []) (
       late-if (ltb (length l.dst) m) OutputShort (omega arith),
-      (late-if (ltb (length l.prepared) n) PreparedShort (omega arith), (late-if (ltb (length l.work) (2 * n)) WorkShort (omega arith), tt)),
+      (
+        late-if (ltb (length l.prepared) n) PreparedShort (omega arith),
+        (late-if (ltb (length l.remaining) n) PreparedShort (omega arith), (late-if (ltb (length l.work) (2 * n)) WorkShort (omega arith), tt)),
+      ),
     )
+
+late-step : (h : RollupHandler) (pre : PreFunction) → Late (row19 h pre)
+late-step h pre = late-if (sees_marks h && not (is_none pre)) StepOfMarks (omega arith)
 
 -- ---- a series that rows 1 to 5 accept
 
@@ -128,17 +139,12 @@ module _ (s : Series) (ok : series_checked s.times s.values ≡ Ok tt) where
   late-prepare room =
       late-first (series_checked s.times s.values ∷ row13 (length s.values) room ∷ []) (late-accepted ok, (late-if (ltb room (length s.values)) PreparedShort (omega arith), tt))
 
-  late-run : (rc : RollupConfig) (l : Lent) → Late (run_checked s.times s.values rc l)
-  unfolding run_checked
-  late-run rc l =
-      let slices = lent_checked (length s.values) (grid_size rc.start rc.end rc.step) l in
-      late-first (series_checked s.times s.values ∷ settings_checked rc ∷ slices ∷ []) (late-accepted ok, (late-settings rc, (late-lent _ _ l, tt)))
-
-  late-settled-run : (sc : SettledConfig) (l : Lent) → Late (settled_checked s.times s.values sc l)
-  unfolding settled_checked
-  late-settled-run sc l =
-      let slices = lent_checked (length s.values) (grid_size sc.start sc.end sc.step) l in
-      late-first (series_checked s.times s.values ∷ settled_settings sc ∷ slices ∷ []) (late-accepted ok, (late-settled sc, (late-lent _ _ l, tt)))
+  -- of run and of settled run alike
+  late-call : (pre : PreFunction) (h : RollupHandler) (settings : Checked) (m : ℕ) (l : Lent) → Late settings → Late (call_checked s.times s.values pre h settings m l)
+  unfolding call_checked
+  late-call pre h settings m l late =
+      late-first (marked_checked s.times s.values ∷ settings ∷ lent_checked (length s.values) m l ∷ row19 h pre ∷ [])
+      (late-accepted (accepted-unmarked s.times s.values ok), (late, (late-lent (length s.values) m l, (late-step h pre, tt))))
 
   late-crossings : (limit : Float) (room : ℕ) → Late (crossings_checked s.times s.values limit room)
   unfolding crossings_checked
@@ -160,8 +166,8 @@ none-of-1-to-5 s ok strict = record {
   by_prepare = λ pre prepared. past-outcome (prepare_checked s.times s.values (length prepared)) _ _ _ (late-prepare s ok (length prepared));
   by_settle = λ rc.
       past-reply (first_refusal (times_checked s.times ∷ settings_checked rc ∷ [])) _ (late-first (times_checked s.times ∷ settings_checked rc ∷ []) (late-accepted (times-ok s ok), (late-settings rc, tt)));
-  by_run = λ pre h rc l. past-outcome (run_checked s.times s.values rc l) _ _ _ (late-run s ok rc l);
-  by_settled_run = λ pre h sc l. past-outcome (settled_checked s.times s.values sc l) _ _ _ (late-settled-run s ok sc l);
+  by_run = λ pre h rc l. past-outcome (run_checked s.times s.values pre h rc l) _ _ _ (late-call s ok pre h (settings_checked rc) (grid_size rc.start rc.end rc.step) l (late-settings rc));
+  by_settled_run = λ pre h sc l. past-outcome (settled_checked s.times s.values pre h sc l) _ _ _ (late-call s ok pre h (settled_settings sc) (grid_size sc.start sc.end sc.step) l (late-settled sc));
   by_crossings = λ limit indexes. past-outcome (crossings_checked s.times s.values limit (length indexes)) _ _ _ (late-crossings s ok limit (length indexes));
   by_nearest = λ t e. past-reply (asked_checked s.times t) _ (late_asked s ok t e);
   by_merge = λ other old m. past-outcome (merge_checked s other old) _ _ _ (late-merge s other old strict m.accepted (le-ltb _ _ m.few));

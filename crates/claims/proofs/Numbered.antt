@@ -7,7 +7,6 @@ use mathlib.Core.Logic.{◌⊎◌, inl, inr, ⊎_elim}
 use mathlib.Core.Option.{none}
 use Prim.Native.Nat.{ℕ, ◌+◌}
 use native.Mathlib.Omega.{arith}
-use lib.ListN.{length}
 use Rattle.std.specs.Prelude.{Some, None}
 use Rattle.harzoulin.specs.Runs.{Choice}
 use Rattle.rollup.specs.declared.handler.RollupHandler.{RollupHandler}
@@ -15,7 +14,7 @@ use Rattle.std.specs.Prelude.{Ok}
 use Rattle.steps.specs.declared.PreFunction.{PreFunction}
 use Rattle.claims.specs.Calls.{Call, Settings, run, settled, accepted, answers, checked, counted, plan, returned, samples}
 use Rattle.claims.specs.Cut.{Cut, joined, total}
-use Rattle.claims.specs.Numbered.{NumberedCall, NumberedRejoined, choice, grid_of, made, made_by, replied, replied_accepted, replied_answers, replied_count}
+use Rattle.claims.specs.Numbered.{NumberedCall, NumberedRejoined, choice, grid_of, made, replied, replied_accepted, replied_answers, replied_count, replied_samples}
 use Rattle.claims.proofs.Cut.{cut-rejoins}
 
 -- ---- joining and adding up over lists of lists
@@ -92,13 +91,9 @@ numbered-cut-rejoins whole pieces c one ok cut =
     let n : total replied_accepted pieces ≡ total accepted (joined made pieces) = total-through made replied_accepted accepted accepted-by pieces in
     let all : replied_answers whole ≡ answers c = answers_by whole ∙ rw one (append-nil (answers c)) in
     let count : replied_count whole ≡ counted c = count_by whole ∙ rw one (omega arith) in
-    let same : length whole.times ≡ samples c = made-samples (choice whole) one in
+    let same : replied_samples whole ≡ samples c = rw one (omega arith) in
     record {
       answers = joined-through made replied_answers answers answers_by pieces ∙ r.answers ∙ sym all;
       some = rw n r.some;
       counts = rw (n, total-through made replied_count counted count_by pieces, count, same) r.counts;
     }
-  where
-    made-samples : (k : Choice) → made_by whole k ≡ c ∷ [] → length whole.times ≡ samples c
-    made-samples (Some (pre, h)) q = let first : with_choice whole pre h ≡ c = cc in ap samples first
-    made-samples None q = let clash : ◌≡◌ {A = ℕ} 0 1 = cc in absurd (omega arith)

@@ -14,15 +14,17 @@ use lib.ListN.{length, take, drop, get_or, length-take, length-drop}
 use lib.Signed.{le_z}
 use Rattle.settings.specs.Rows.{max_grid_points, outside, row6, row7, row11, settled_row8, settled_row9, settled_settings, span_outside}
 use Rattle.run.proofs.Passed.{run_sound, settled-sound}
-use Rattle.run.specs.Run.{Lent, Plan, lent_checked, planned, row12, row14, settled_checked, slices_checked}
+use Rattle.marks.specs.Marks.{marked_checked}
+use Rattle.run.proofs.Kept.{kept-times-accepted}
+use Rattle.run.specs.Run.{Lent, Plan, call_checked, kept, lent_checked, planned, room_checked, row12, row14, row19}
 use Rattle.settings.specs.declared.SettledConfig.{SettledConfig}
 use Rattle.series.specs.Refusals.{first_refusal, refused_if}
-use Rattle.series.specs.Rows.{row1, row5, row13, series_checked, times_checked}
+use Rattle.series.specs.Rows.{row13}
 use Rattle.series.specs.Refusals.{Checked}
 use Rattle.std.specs.Prelude.{Ok, Err}
 use Rattle.series.specs.declared.refusal.Refusal.{Refusal}
 use Rattle.series.specs.declared.refusal.Refusal.TheVariants.{OutputShort, PreparedShort, WorkShort}
-use Rattle.series.proofs.Accepted.{AllAccept, all-accept}
+use Rattle.series.proofs.Accepted.{AllAccept}
 use Rattle.times.specs.Grid.{Spans, grid_from, grid_size, time_at}
 use Rattle.times.specs.Milli.{time_limit, Within}
 use Rattle.times.proofs.GridLaws.{grid-at, grid-cut, grid-length, spans-cut}
@@ -49,14 +51,12 @@ record SoundCall (s : Settings) (p : Plan) : Type 0 where
   few : grid_size (start_of s) (end_of s) (step_of s) ≤ max_grid_points
 
 sound : (c : Call) → checked c ≡ Ok tt → SoundCall c.settings (plan c)
-unfolding series_checked
 sound c ok = go c.settings (rows-accept c ok).1.0
   where
-    times : times_checked c.times ≡ Ok tt
-    times = (all-accept (row1 c.times c.values ∷ times_checked c.times ∷ row5 c.values ∷ []) (rows-accept c ok).0).1.0
-
     go : (s : Settings) → settings_rows s ≡ Ok tt → SoundCall s (plan_by c s)
-    go (run rc) e = let r = run_sound c.times rc times e in record { span = r.span; grid = refl; eight = r.eight; nine = r.nine; few = r.few }
+    go (run rc) e =
+        let times = kept-times-accepted c.times c.values (rows-accept c ok).0 c.handler in
+        let r = run_sound (kept c.handler c.times c.values).times rc times e in record { span = r.span; grid = refl; eight = r.eight; nine = r.nine; few = r.few }
     go (settled sc) e = let r = settled-sound sc e in record { span = r.span; grid = refl; eight = r.eight; nine = r.nine; few = r.few }
 
 -- ---- rows 6 and 7 let pass what they are known to
@@ -86,16 +86,18 @@ refused-not : {r : Refusal} → ◌≡◌ {A = Checked} (Err r) (Ok tt) → ⊥
 refused-not e = let clash : ◌≡◌ {A = ℕ} 0 1 = cc in omega arith
 
 -- where the others accept
-slices-only : (x y : Checked) (d p w : Bool) (q : Plan) (l : Lent) → x ≡ Ok tt → y ≡ Ok tt
-    → OnlySlices (planned (first_refusal (x ∷ y ∷ first_refusal (refused_if d OutputShort ∷ refused_if p PreparedShort ∷ refused_if w WorkShort ∷ []) ∷ [])) q l).answer
-slices-only (Err r) y d p w q l e f = absurd (refused-not e)
-slices-only (Ok _) (Err r) d p w q l e f = absurd (refused-not f)
-slices-only (Ok _) (Ok _) true p w q l e f = inr (omega arith, omega arith)
-slices-only (Ok _) (Ok _) false true w q l e f = inr (omega arith, omega arith)
-slices-only (Ok _) (Ok _) false false true q l e f = inr (omega arith, omega arith)
-slices-only (Ok _) (Ok _) false false false q l e f = inl refl
+slices-only : (x y z : Checked) (d p r w : Bool) (q : Plan) (l : Lent) → x ≡ Ok tt → y ≡ Ok tt → z ≡ Ok tt
+    → OnlySlices (planned (first_refusal (x ∷ y ∷ first_refusal (refused_if d OutputShort ∷ refused_if p PreparedShort ∷ refused_if r PreparedShort ∷ refused_if w WorkShort ∷ []) ∷ z ∷ [])) q l).answer
+slices-only (Err o) y z d p r w q l e f g = absurd (refused-not e)
+slices-only (Ok _) (Err o) z d p r w q l e f g = absurd (refused-not f)
+slices-only (Ok _) (Ok _) z true p r w q l e f g = inr (omega arith, omega arith)
+slices-only (Ok _) (Ok _) z false true r w q l e f g = inr (omega arith, omega arith)
+slices-only (Ok _) (Ok _) z false false true w q l e f g = inr (omega arith, omega arith)
+slices-only (Ok _) (Ok _) z false false false true q l e f g = inr (omega arith, omega arith)
+slices-only (Ok _) (Ok _) (Err o) false false false false q l e f g = absurd (refused-not g)
+slices-only (Ok _) (Ok _) (Ok _) false false false false q l e f g = inl refl
 
-all-accepted : (rows : List Checked) → AllAccept rows → first_refusal rows ≡ Ok tt
+pub all-accepted : (rows : List Checked) → AllAccept rows → first_refusal rows ≡ Ok tt
 all-accepted [] a = refl
 all-accepted (r ∷ rows) a = rw a.0 (all-accepted rows a.1)
 
@@ -148,21 +150,24 @@ module _ (c : Call) (ok : checked c ≡ Ok tt) (a b : ℕ) (order : a ≤ b) (in
   -- A settled run with the series, choices, window, reach and step of an accepted run or settled run, from one time of the grid to the same or a later one,
   -- is refused by no row but 12 to 14.
   pub piece-accepted : (l : Lent) → OnlySlices (returned (piece c a b l)).answer
-  unfolding settled_checked slices_checked
+  unfolding call_checked room_checked
   piece-accepted l =
-      slices-only (series_checked c.times c.values) (settled_settings stretch)
-      (ltb (length l.dst) (grid_size from to step)) (ltb (length l.prepared) (length c.values)) (ltb (length l.work) (2 * length c.values))
-      (plan (piece c a b l)) l (rows-accept c ok).0 piece-settings
+      slices-only (marked_checked c.times c.values) (settled_settings stretch) (row19 c.handler c.pre)
+      (ltb (length l.dst) (grid_size from to step)) (ltb (length l.prepared) (length c.values)) (ltb (length l.remaining) (length c.values)) (ltb (length l.work) (2 * length c.values))
+      (plan (piece c a b l)) l (rows-accept c ok).0 piece-settings (rows-accept c ok).1.1.1.0
 
   -- with slices that have the room, it is accepted
   pub piece-with-room : (l : Lent) → Room (length c.values) (b - a + 1) l → checked (piece c a b l) ≡ Ok tt
-  unfolding settled_checked slices_checked
+  unfolding call_checked room_checked
   piece-with-room l r =
       let n = length c.values in
       let m = grid_size from to step in
       let dst : row12 m (length l.dst) ≡ Ok tt = rw (le-ltb (length l.dst) m (omega (arith, piece-size, r.dst))) in
       let prepared : row13 n (length l.prepared) ≡ Ok tt = rw (le-ltb (length l.prepared) n r.prepared) in
+      let remaining : row13 n (length l.remaining) ≡ Ok tt = rw (le-ltb (length l.remaining) n r.remaining) in
       let work : row14 n (length l.work) ≡ Ok tt = rw (le-ltb (length l.work) (2 * n) r.work) in
+      let slices : lent_checked n m l ≡ Ok tt =
+      all-accepted (row12 m (length l.dst) ∷ row13 n (length l.prepared) ∷ row13 n (length l.remaining) ∷ row14 n (length l.work) ∷ []) (dst, (prepared, (remaining, (work, tt)))) in
       all-accepted
-      (series_checked c.times c.values ∷ settled_settings stretch ∷ lent_checked n m l ∷ [])
-      ((rows-accept c ok).0, (piece-settings, (all-accepted (row12 m (length l.dst) ∷ row13 n (length l.prepared) ∷ row14 n (length l.work) ∷ []) (dst, (prepared, (work, tt))), tt)))
+      (marked_checked c.times c.values ∷ settled_settings stretch ∷ lent_checked n m l ∷ row19 c.handler c.pre ∷ [])
+      ((rows-accept c ok).0, (piece-settings, (slices, ((rows-accept c ok).1.1.1.0, tt))))

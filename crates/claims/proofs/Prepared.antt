@@ -1,6 +1,6 @@
 -- A prepared series holds 64-bit patterns of binary64 values: each step's values are sums, differences and quotients of the format, or are among those handed in.
 -- Assumes nothing.
-use mathlib.Core.Path.{sym, subst}
+use mathlib.Core.Path.{◌≡◌, sym, subst, ◌∙◌}
 use mathlib.Core.List.{List, [], ◌∷◌, zip_with}
 use mathlib.Core.Bool.{not}
 use Prim.Native.Nat.{ℕ, ◌*◌, ◌<◌}
@@ -11,16 +11,22 @@ use lib.Ieee.{Float, nan, binary64, fits, is_nan, of_bits, sub, top}
 use lib.Ieee.Bits.{of_bits-fits, to_bits-lt}
 use lib.Ieee.Fits.{add-fits, div-fits, inf-fits, sub-fits}
 use Rattle.ieee.specs.Patterns.{floats, patterns}
+use Rattle.marks.specs.Marks.{remaining_of}
 use Rattle.steps.specs.declared.Counter.{Counter}
 use Rattle.steps.specs.Steps.{corrected, counted, deltas, deltas_from, derivs, derivs_from, intervals_from, outputs_from, prepared_of, second_twice, sloped, whole_seconds}
 use Rattle.steps.specs.declared.PreFunction.{PreFunction}
 use Rattle.steps.specs.declared.PreFunction.TheVariants.{None, Resets, Delta, Deriv, Intervals, ResetsOnce}
 use Rattle.steps.specs.declared.Slope.{Slope}
-use Rattle.series.proofs.All.{All}
+use Rattle.series.proofs.All.{All, Finite, finite-all}
 use Rattle.steps.proofs.Resets.{lifted-fits}
 use Rattle.ieee.proofs.Tests.{by-test}
 use Rattle.record.specs.Record.{Reading, readings}
-use Rattle.claims.specs.Agree.{NoNan, Prepared}
+use Rattle.claims.specs.Agree.{NoNan, Prepared, Seen, Unmarked, Words}
+use Rattle.claims.proofs.Unmarked.{rows-are}
+use Rattle.ieee.proofs.Numbers.{finite_number}
+use Rattle.series.proofs.Accepted.{accepted-series}
+use Rattle.series.specs.Rows.{series_checked}
+use Rattle.std.specs.Prelude.{Ok}
 
 abbrev Fits : Float → Type 0
 Fits x = T (fits binary64 x)
@@ -94,5 +100,19 @@ pattern-numbers (t ∷ ts) (x ∷ xs) f n =
 
 pub prepared-numbers : (s : List Reading) → Prepared s → NoNan s → Numbers s
 prepared-numbers s p n =
+    let left = remaining_of p.times p.values in
     subst Numbers (sym p.prepared)
-    (pattern-numbers p.times (prepared_of p.pre p.times (floats p.values)) (prepared-fit p.pre p.times p.values) (subst NoNan p.prepared n))
+    (pattern-numbers left.times (prepared_of p.pre left.times (floats left.values)) (prepared-fit p.pre left.times left.values) (subst NoNan p.prepared n))
+
+-- ---- a series as it is handed to a rollup that sees marks, where it has none
+
+word-numbers : (ts : List ℤ) (vs : List ℕ) → Words vs → All Finite (floats vs) → Numbers (readings ts vs)
+unfolding zip_with floats
+word-numbers [] vs w f = tt
+word-numbers (t ∷ ts) [] w f = tt
+word-numbers (t ∷ ts) (v ∷ vs) w f = (record { bits = w.0; number = rw (finite_number (of_bits binary64 v) f.0) tt }, word-numbers ts vs w.1 f.1)
+
+pub seen-numbers : (s : List Reading) (p : Seen s) → Unmarked p.values → Numbers s
+seen-numbers s p u =
+    let ok : series_checked p.times p.values ≡ Ok tt = sym (rows-are p.times p.values u) ∙ p.accepted in
+    subst Numbers (sym p.seen) (word-numbers p.times p.values p.words (finite-all p.values (accepted-series p.times p.values ok).all_finite))

@@ -25,8 +25,8 @@ use Rattle.times.specs.Readings.{filter, cons_if}
 use Rattle.times.proofs.Order.{le_trans, lt_not_le, sub-le}
 use Rattle.outputs.specs.Figures.{answer}
 use Rattle.record.specs.Record.{Reading, inside, before, after, last_if_any, window, earlier, later, next, time_of, bits_of, value_of, only_if, or_nan, later_than, reached, where_any, predecessor, as_field, Record, record_at}
-use Rattle.claims.specs.Agree.{Agree, Bits, NoNan, Prepared, record_bits}
-use Rattle.claims.proofs.Prepared.{Number, Numbers, prepared-numbers}
+use Rattle.claims.specs.Agree.{Agree, Bits, NoNan, Prepared, Seen, Unmarked, record_bits}
+use Rattle.claims.proofs.Prepared.{Number, Numbers, prepared-numbers, seen-numbers}
 
 abbrev NumberIn : Option Reading → Type 0
 NumberIn none = Unit {0}
@@ -246,6 +246,20 @@ pub records-agree : (a b : List Reading) → Prepared a → Prepared b → NoNan
 records-agree a b pa pb na nb w r t row8 =
     let h = window-positive w r row8 in (
       λ e. records-give-agreement a b w r t h (prepared-numbers a pa na) (prepared-numbers b pb nb) (same_bits a b w r t w r t e),
+      λ g. ap record_bits (agreement-gives-records a b w r t h g),
+    )
+
+-- For the rollups that see marks, which are handed a series as it is, agreement gives equal records, whatever marks it has.
+pub seen-agreement-gives-records : (a b : List Reading) → Seen a → Seen b → (w r t : ℤ) → settled_row8 w r ≡ Ok tt → Agree a b w r t
+    → record_bits (record_at a w r t) ≡ record_bits (record_at b w r t)
+seen-agreement-gives-records a b sa sb w r t row8 g = ap record_bits (agreement-gives-records a b w r t (window-positive w r row8) g)
+
+-- And without marks equal records show agreement there, too.
+pub seen-records-agree : (a b : List Reading) → (sa : Seen a) → (sb : Seen b) → Unmarked sa.values → Unmarked sb.values → (w r t : ℤ) → settled_row8 w r ≡ Ok tt
+    → record_bits (record_at a w r t) ≡ record_bits (record_at b w r t) ↔ Agree a b w r t
+seen-records-agree a b sa sb ua ub w r t row8 =
+    let h = window-positive w r row8 in (
+      λ e. records-give-agreement a b w r t h (seen-numbers a sa ua) (seen-numbers b sb ub) (same_bits a b w r t w r t e),
       λ g. ap record_bits (agreement-gives-records a b w r t h g),
     )
 

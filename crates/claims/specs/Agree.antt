@@ -1,23 +1,41 @@
 -- When two series hand a rollup equal records (docs/CLAIMS.md): which series are meant, when two records are equal, and what the two series agree on.
 -- Assumes nothing.
-use Rattle.std.specs.Prelude.{List, [], ◌∷◌, ◌≡◌, false, ℕ, ℤ, Option}
+use Rattle.std.specs.Prelude.{List, [], ◌∷◌, ◌≡◌, false, ℕ, ◌^◌, ◌<◌, ℤ, Option}
 use Rattle.std.proofs.Math.Option.{IsSome}
 use Rattle.std.specs.Float.{binary64}
 use Rattle.std.specs.Float.Ieee.{is_nan, of_bits, to_bits}
 use Rattle.ieee.specs.Patterns.{floats, patterns}
-use Rattle.series.specs.Rows.{series_checked}
+use Rattle.ieee.specs.Mark.{is_mark}
+use Rattle.marks.specs.Marks.{marked_checked, remaining_of}
+use Rattle.series.proofs.All.{All}
 use Rattle.steps.specs.Steps.{prepared_of}
 use Rattle.std.specs.Prelude.{Ok}
 use Rattle.steps.specs.declared.PreFunction.{PreFunction}
 use Rattle.record.specs.Record.{Reading, Record, readings, window, earlier, later, next, time_of, bits_of, reached}
 
--- a prepared series: an accepted series' times with the values the chosen step gives them
+-- a prepared series: the times that remain of an accepted series without its marks, with the values the chosen step gives them
 pub record Prepared (s : List Reading) : Type 0 where
   pub times : List ℤ
   pub values : List ℕ
   pub pre : PreFunction
-  pub accepted : series_checked times values ≡ Ok tt
-  pub prepared : s ≡ readings times (patterns (prepared_of pre times (floats values)))
+  pub accepted : marked_checked times values ≡ Ok tt
+  pub prepared : let left = remaining_of times values in s ≡ readings left.times (patterns (prepared_of pre left.times (floats left.values)))
+
+-- patterns of 64 bits
+abbrev pub Words : List ℕ → Type 0
+Words vs = All (λ b. b < 2 ^ 64) vs
+
+-- and as it is handed to a rollup that sees marks: all readings of an accepted series, with their own bits
+pub record Seen (s : List Reading) : Type 0 where
+  pub times : List ℤ
+  pub values : List ℕ
+  pub accepted : marked_checked times values ≡ Ok tt
+  pub words : Words values
+  pub seen : s ≡ readings times values
+
+-- without marks
+abbrev pub Unmarked : List ℕ → Type 0
+Unmarked vs = All (λ b. is_mark b ≡ false) vs
 
 -- without NaN
 abbrev pub NoNan : List Reading → Type 0

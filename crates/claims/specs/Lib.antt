@@ -9,3 +9,4 @@ pub mod Requested
 pub mod Waits
 pub mod Merged
 pub mod Quantile
+pub mod Marks

@@ -9,7 +9,7 @@ use Rattle.steps.specs.Choice.{step_of}
 use Rattle.rollup.specs.Choice.{rollup_of}
 use Rattle.run.specs.Run.{Lent}
 use Rattle.harzoulin.specs.Runs.{Choice, choice_of, numbered_run, numbered_settled_run}
-use Rattle.claims.specs.Calls.{Call, Settings, run, settled, if_given}
+use Rattle.claims.specs.Calls.{Call, Settings, run, settled, if_given, samples}
 use Rattle.claims.specs.Cut.{joined, total}
 
 pub record NumberedCall : Type 0 where
@@ -69,8 +69,12 @@ module _ (e : NumberedCall) where
   abbrev pub replied_answers : List ℕ
   replied_answers = answers_in e.settings (replied e)
 
+  -- the readings that the call which it makes goes by
+  abbrev pub replied_samples : ℕ
+  replied_samples = total samples (made e)
+
 -- the answers joined are the whole call's, and the counts add up to its count plus its samples once for each accepted one after the first
 pub record NumberedRejoined (whole : NumberedCall) (pieces : List NumberedCall) : Type 0 where
   pub answers : joined replied_answers pieces ≡ replied_answers whole
   pub some : 0 < total replied_accepted pieces
-  pub counts : total replied_count pieces ≡ replied_count whole + length whole.times * (total replied_accepted pieces - 1)
+  pub counts : total replied_count pieces ≡ replied_count whole + replied_samples whole * (total replied_accepted pieces - 1)

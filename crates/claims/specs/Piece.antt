@@ -36,6 +36,7 @@ OnlySlices a = (a.number ≡ 0) ⊎ ((12 ≤ a.number) × (a.number ≤ 14))
 pub record Room (readings outputs : ℕ) (l : Lent) : Type 0 where
   pub dst : outputs ≤ length l.dst
   pub prepared : readings ≤ length l.prepared
+  pub remaining : readings ≤ length l.remaining
   pub work : 2 * readings ≤ length l.work
 
 -- a stretch of a grid: one output time and so many more, with the slices that its piece is lent

@@ -1,17 +1,21 @@
 -- The cases that were stated for what goes beyond the Rust, as one table: each a list that the definitions compute, and the list that is stated, as in `Table`.
 -- Assumes nothing.
-use Rattle.std.specs.Prelude.{List, [], ◌∷◌, map, ℕ, pos, negsuc, Float}
+use Rattle.std.specs.Prelude.{List, [], ◌∷◌, ◌++◌, map, ℕ, pos, negsuc, nat_abs, Float}
 use Rattle.std.specs.Float.{binary64}
 use Rattle.std.specs.Float.Ieee.{neg, to_bits}
 use Rattle.ieee.specs.Patterns.{patterns}
 use Rattle.series.specs.Answers.{reply_of}
 use Rattle.series.specs.Refusals.{Checked}
-use Rattle.series.specs.Rows.{times_checked}
+use Rattle.series.specs.Rows.{series_checked, times_checked}
+use Rattle.series.specs.Series.{Series}
+use Rattle.ieee.specs.Mark.{mark}
+use Rattle.marks.specs.Marks.{marked_checked, remaining_of}
+use Rattle.run.specs.Run.{row19}
 use Rattle.merge_series.specs.Call.{strict_checked}
 use Rattle.config.specs.Estimate.{estimate_of}
-use Rattle.steps.specs.declared.PreFunction.TheVariants.{Deriv, Resets, ResetsOnce}
+use Rattle.steps.specs.declared.PreFunction.TheVariants.{Deriv, None, Resets, ResetsOnce}
 use Rattle.rollup.specs.declared.handler.RollupHandler.{RollupHandler}
-use Rattle.rollup.specs.declared.handler.RollupHandler.TheVariants.{Count, Default, Delta, DerivFast, First, Ideriv, UntilNext}
+use Rattle.rollup.specs.declared.handler.RollupHandler.TheVariants.{Count, Default, Delta, DerivFast, First, Ideriv, StaleSamples, UntilNext}
 use Rattle.outputs.specs.Figures.{answer}
 use Rattle.record.specs.Record.{Record, readings, record_at}
 use Rattle.claims.specs.Table.{Case, from_second, num, rolled, step}
@@ -34,6 +38,20 @@ times_of_four = 1000 ∷ 2000 ∷ 2000 ∷ 3000 ∷ []
 
 abbrev four : List Float
 four = num 1 ∷ num 2 ∷ num 3 ∷ num 4 ∷ []
+
+-- what remains of 1, a mark, 3
+abbrev three_marked : List ℕ
+three_marked = to_bits binary64 (num 1) ∷ mark ∷ to_bits binary64 (num 3) ∷ []
+
+abbrev three_times : List ℕ
+three_times = 1000 ∷ 2000 ∷ 3000 ∷ []
+
+abbrev gone : Series
+gone = remaining_of (map pos three_times) three_marked
+
+-- and a rollup's answer over all three, at t
+abbrev marked : RollupHandler → ℕ → ℕ
+marked h t = answer h (record_at (readings (map pos three_times) three_marked) (pos 1000) (pos 5000) (pos t))
 
 abbrev pub requested : List Case
 requested =
@@ -78,6 +96,19 @@ requested =
     ∷ record { computed = figure Ideriv (1000 ∷ 1000 ∷ []) (num 1 ∷ num 3 ∷ []) 1000; stated = 0 ∷ [] }
     -- the step deriv passes over a reading of the same time: 0, 0, 1000 with 1, 5, 3 gives 0, 2, 2
     ∷ record { computed = step Deriv (0 ∷ 0 ∷ 1000 ∷ []) (num 1 ∷ num 5 ∷ num 3 ∷ []); stated = patterns (num 0 ∷ num 2 ∷ num 2 ∷ []) }
+    -- the staleness mark passes row 5 of the runs and no other; with the quiet bit or the other sign it passes none
+    ∷ record { computed = told (marked_checked (map pos (1 ∷ 2 ∷ [])) (0 ∷ mark ∷ [])); stated = 0 ∷ 0 ∷ [] }
+    ∷ record { computed = told (series_checked (map pos (1 ∷ 2 ∷ [])) (0 ∷ mark ∷ [])); stated = 5 ∷ 1 ∷ [] }
+    ∷ record { computed = told (marked_checked (map pos (1 ∷ 2 ∷ [])) (mark ∷ 0x7FF8_0000_0000_0002 ∷ [])); stated = 5 ∷ 1 ∷ [] }
+    ∷ record { computed = told (marked_checked (map pos (1 ∷ 2 ∷ [])) (mark ∷ 0xFFF0_0000_0000_0002 ∷ [])); stated = 5 ∷ 1 ∷ [] }
+    -- of 1, a mark, 3 at 1000, 2000, 3000 there remain 1 and 3
+    ∷ record { computed = map nat_abs gone.times ++ gone.values; stated = 1000 ∷ 3000 ∷ patterns (num 1 ∷ num 3 ∷ []) }
+    -- over all three default answers the mark at 2000, with its bits, and stale_samples one; over an empty window NaN
+    ∷ record { computed = marked Default 2000 ∷ marked StaleSamples 2000 ∷ marked StaleSamples 3000 ∷ []; stated = mark ∷ patterns (num 1 ∷ num 0 ∷ []) }
+    ∷ record { computed = marked StaleSamples 5000 ∷ marked Default 5000 ∷ []; stated = 0x7FF8_0000_0000_0000 ∷ 0x7FF8_0000_0000_0000 ∷ [] }
+    -- the two are refused 19 with a step, and without one they are not; no other rollup is
+    ∷ record { computed = told (row19 Default Deriv) ++ told (row19 StaleSamples Resets); stated = 19 ∷ 0 ∷ 19 ∷ 0 ∷ [] }
+    ∷ record { computed = told (row19 Default None) ++ told (row19 Count Deriv); stated = 0 ∷ 0 ∷ 0 ∷ 0 ∷ [] }
     -- distances of 0 give the estimate of a lone reading
     ∷ record { computed = estimate_of (pos 7 ∷ pos 7 ∷ pos 7 ∷ []) ∷ []; stated = 300000 ∷ [] }
     ∷ []

@@ -4,8 +4,8 @@ use mathlib.Core.List.{List, foldl}
 use Rattle.std.specs.Prelude.{true, false, cond, ℕ, ◌+◌, length, drop, Float}
 use Rattle.std.specs.Float.{nan, binary64}
 use Rattle.std.specs.Float.Ieee.{add, sub, mul, div, lt, eq}
-use Rattle.std.specs.List.{count_by}
 use Rattle.ieee.specs.Mark.{is_mark}
+use Rattle.times.specs.Readings.{filter}
 use Rattle.order.specs.Order.{sorted}
 use Rattle.order.specs.declared.Order.TheVariants.{Total}
 use Rattle.window.specs.declared.types.RollupFuncArg.{RollupFuncArg}
@@ -66,7 +66,7 @@ count_of xs = cond (is_empty xs) nan (count_f (length xs))
 
 -- how many values are staleness marks, told by their bits
 unfoldable pub stale_samples_of : List ℕ → Float
-stale_samples_of bs = cond (is_empty bs) nan (count_f (count_by is_mark bs))
+stale_samples_of bs = cond (is_empty bs) nan (count_f (length (filter is_mark bs)))
 
 -- a value that equals the last one kept is dropped, as `dedup` does; how many were kept
 abbrev pub dedup : Float × ℕ → Float → Float × ℕ
