@@ -46,6 +46,7 @@ pub struct Case {
     pub reach: i64,
     pub dst_values: Vec<u64>,
     pub prepared: Vec<u64>,
+    pub remaining: Vec<i64>,
     pub work: Vec<u64>,
     pub limit: f64,
     pub indexes: Vec<u64>,
@@ -93,6 +94,7 @@ pub struct Outcome {
     pub length: u64,
     pub dst_values: Vec<u64>,
     pub prepared: Vec<u64>,
+    pub remaining: Vec<i64>,
     pub work: Vec<u64>,
     pub indexes: Vec<u64>,
     pub merged_timestamps: Vec<i64>,
@@ -117,6 +119,7 @@ impl Outcome {
             length: UNSET,
             dst_values: case.dst_values.clone(),
             prepared: case.prepared.clone(),
+            remaining: case.remaining.clone(),
             work: case.work.clone(),
             indexes: case.indexes.clone(),
             merged_timestamps: case.merged_timestamps.clone(),
@@ -147,6 +150,7 @@ impl Outcome {
         let slices = [
             differing("output", &self.dst_values, &judge.dst_values, show),
             differing("prepared", &self.prepared, &judge.prepared, show),
+            differing("remaining", &self.remaining, &judge.remaining, time),
             differing("work", &self.work, &judge.work, show),
             differing("indexes", &self.indexes, &judge.indexes, number),
             differing("merged times", &self.merged_timestamps, &judge.merged_timestamps, time),
@@ -188,8 +192,10 @@ impl fmt::Display for Case {
         )?;
         writeln!(f, "  {:?}, reach {}", self.settings, self.reach)?;
         writeln!(f, "  limit {}, asked time {}", show(self.limit.to_bits()), self.time)?;
-        let lengths = [self.dst_values.len(), self.prepared.len(), self.work.len(), self.lent];
-        writeln!(f, "  lengths of output, prepared, work and index slice: {lengths:?}")?;
+        let lengths = [self.dst_values.len(), self.prepared.len(), self.remaining.len()];
+        writeln!(f, "  lengths of output, prepared and remaining: {lengths:?}")?;
+        let lengths = [self.work.len(), self.lent];
+        writeln!(f, "  lengths of work and index slice: {lengths:?}")?;
         let lengths = [self.lent_times, self.lent_values];
         write!(f, "  lengths of the slices for merged times and values: {lengths:?}")
     }

@@ -1,5 +1,7 @@
 //! A run and the settled runs that its grid is cut into: joined, they give its answers bit for bit,
-//! and their counts are its count and the samples once more for each piece after the first.
+//! and their counts are its count and the samples once more for each piece after the first. Settle is
+//! handed the times that remain when the staleness marks are taken out, which are the samples, too; for
+//! the rollups that see marks, all times.
 
 use std::mem::replace;
 use std::ops::Range;
@@ -10,7 +12,7 @@ use crate::call::{show, Call, Case};
 use crate::inputs::cases::slice;
 use crate::inputs::series::TIME_LIMIT;
 use crate::rng::Rng;
-use crate::{port, rows};
+use crate::{oracle, port, rows};
 
 /// The calls that the comparison makes.
 pub const CALLS: [Call; 3] = [Call::Settle, Call::Run, Call::SettledRun];
@@ -30,9 +32,11 @@ pub fn disagreement(call: Call, case: &Case, seed: u64) -> Result<u64, String> {
     if whole.number != 0 {
         return Err(format!("the whole is refused {}", whole.number));
     }
+    let (timestamps, _) = oracle::readings(case);
+    let samples = timestamps.len();
     let (window, reach) = match call {
         Call::Run => {
-            let settled = port::outcome(Call::Settle, case);
+            let settled = port::outcome(Call::Settle, &Case { timestamps, ..case.clone() });
             (settled.window, settled.reach)
         }
         _ => (case.settings.window, case.reach),
@@ -52,6 +56,7 @@ pub fn disagreement(call: Call, case: &Case, seed: u64) -> Result<u64, String> {
                 reach,
                 dst_values: slice(&mut rng, piece.len()),
                 prepared: left.prepared,
+                remaining: left.remaining,
                 work: left.work,
                 ..case.clone()
             },
@@ -67,7 +72,7 @@ pub fn disagreement(call: Call, case: &Case, seed: u64) -> Result<u64, String> {
         let (whole, joined) = (show(whole.dst_values[i]), show(joined[i]));
         return Err(format!("output[{i}]: the whole {whole}, cut at {pieces:?} {joined}"));
     }
-    let again = (pieces.len() - 1) * case.timestamps.len();
+    let again = (pieces.len() - 1) * samples;
     if count != whole.count + again as u64 {
         let whole = whole.count;
         return Err(format!("count: the whole {whole} and {again}, cut at {pieces:?} {count}"));

@@ -12,7 +12,10 @@ pub fn outcome(call: Call, case: &Case) -> Outcome {
     }
     outcome.index = 0;
     match call {
-        Call::Prepare => write(&mut outcome.prepared, &all_bits(&prepared(case))),
+        Call::Prepare => {
+            let values = prepared(case.pre, &case.timestamps, &case.values);
+            write(&mut outcome.prepared, &all_bits(&values))
+        }
         Call::Settle => {
             (outcome.window, outcome.reach) = judge::settle(&case.settings, &case.timestamps);
             outcome.points = rows::points(case);
@@ -38,16 +41,25 @@ pub fn outcome(call: Call, case: &Case) -> Outcome {
 }
 
 fn run(call: Call, case: &Case, outcome: &mut Outcome) {
-    let values = prepared(case);
-    let run = run_by(judge::run, call, case, &values);
+    let (timestamps, values) = readings(case);
+    let prepared = prepared(case.pre, &timestamps, &values);
+    let run = run_by(judge::run, call, case, &timestamps, &prepared);
     outcome.count = run.count;
-    write(&mut outcome.dst_values, &all_bits(&run.answers));
-    write(&mut outcome.prepared, &all_bits(&values));
-    write(&mut outcome.work, &vec![0; 2 * values.len()]);
+    write(&mut outcome.dst_values, &run.answers);
+    // After no step the prepared values have the readings' own bits, marks included.
+    write(&mut outcome.prepared, &if case.pre == 0 { values } else { all_bits(&prepared) });
+    write(&mut outcome.remaining, &timestamps);
+    write(&mut outcome.work, &vec![0; 2 * prepared.len()]);
 }
 
-/// The run as it is judged, or as the Rust has it.
-fn run_by(judge: fn(Asked) -> Run, call: Call, case: &Case, values: &[f64]) -> Run {
+/// The run as it is judged, or as the Rust has it, on times and prepared values.
+fn run_by(
+    judge: fn(Asked) -> Run,
+    call: Call,
+    case: &Case,
+    timestamps: &[i64],
+    values: &[f64],
+) -> Run {
     let settings = match call {
         Call::SettledRun => judge::settled(&case.settings, case.settings.window, case.reach),
         _ => case.settings.clone(),
@@ -58,26 +70,37 @@ fn run_by(judge: fn(Asked) -> Run, call: Call, case: &Case, values: &[f64]) -> R
         first: case.first,
         second: case.second,
         values,
-        timestamps: &case.timestamps,
+        timestamps,
     })
 }
 
-/// Whether the Rust's own run has the answers and the count of this outcome, where it is an accepted run of a series
+/// Whether the Rust's own run has the answers and the count of this outcome, where it is an accepted run on readings
 /// with equal times, which the window rule judges.
 pub fn as_the_rust(call: Call, case: &Case, outcome: &Outcome) -> Option<bool> {
-    let runs = call == Call::Run || call == Call::SettledRun;
-    if !runs || outcome.number != 0 || !window::repeats(&case.timestamps) {
+    if !rows::runs(call) || outcome.number != 0 {
         return None;
     }
-    let run = run_by(judge::by_the_rust, call, case, &prepared(case));
-    let answers = all_bits(&run.answers);
-    Some(run.count == outcome.count && outcome.dst_values.starts_with(&answers))
+    let (timestamps, values) = readings(case);
+    if !window::repeats(&timestamps) {
+        return None;
+    }
+    let values = prepared(case.pre, &timestamps, &values);
+    let run = run_by(judge::by_the_rust, call, case, &timestamps, &values);
+    Some(run.count == outcome.count && outcome.dst_values.starts_with(&run.answers))
 }
 
-/// The values after the chosen step.
-pub fn prepared(case: &Case) -> Vec<f64> {
-    let mut values: Vec<f64> = case.values.iter().map(|b| f64::from_bits(*b)).collect();
-    judge::prepare(case.pre as usize, &case.timestamps, &mut values);
+/// The readings that a run is made on: the remaining ones, for a rollup that sees marks all.
+pub fn readings(case: &Case) -> (Vec<i64>, Vec<u64>) {
+    match judge::SEE_MARKS.contains(&(case.rollup as usize)) {
+        true => (case.timestamps.clone(), case.values.clone()),
+        false => model::remaining(case.series()[0]),
+    }
+}
+
+/// The values after a step.
+pub fn prepared(pre: u32, timestamps: &[i64], values: &[u64]) -> Vec<f64> {
+    let mut values: Vec<f64> = values.iter().map(|b| f64::from_bits(*b)).collect();
+    judge::prepare(pre as usize, timestamps, &mut values);
     values
 }
 

@@ -90,7 +90,7 @@ pub fn run(case: &Case, o: &mut Outcome) -> u64 {
     let s = &case.settings;
     let (times, values) = (Times::of(&case.timestamps), Values::of(&case.values));
     let (output, prepared) = (Output::of(&mut o.dst_values), Prepared::of(&mut o.prepared));
-    let work = Work::of(&mut o.work);
+    let (remaining, work) = (Remaining::of(&mut o.remaining), Work::of(&mut o.work));
     #[cfg(port_run)]
     return unsafe {
         ask!(
@@ -112,7 +112,7 @@ pub fn run(case: &Case, o: &mut Outcome) -> u64 {
                 s.max_points_per_series,
                 s.samples_scanned_per_call,
             ],
-            [output, prepared, work],
+            [output, prepared, remaining, work],
             [o.count, o.index]
         )
     };
@@ -123,7 +123,7 @@ fn settled_run(case: &Case, o: &mut Outcome) -> u64 {
     let s = &case.settings;
     let (times, values) = (Times::of(&case.timestamps), Values::of(&case.values));
     let (output, prepared) = (Output::of(&mut o.dst_values), Prepared::of(&mut o.prepared));
-    let work = Work::of(&mut o.work);
+    let (remaining, work) = (Remaining::of(&mut o.remaining), Work::of(&mut o.work));
     #[cfg(port_settled_run)]
     return unsafe {
         ask!(
@@ -141,7 +141,7 @@ fn settled_run(case: &Case, o: &mut Outcome) -> u64 {
                 case.reach,
                 s.samples_scanned_per_call,
             ],
-            [output, prepared, work],
+            [output, prepared, remaining, work],
             [o.count, o.index]
         )
     };

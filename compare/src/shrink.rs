@@ -102,9 +102,10 @@ fn plainer_settings() -> Vec<Change> {
 }
 
 fn shorter_slices() -> Vec<Change> {
-    let edits: [fn(&mut Case); 9] = [
+    let edits: [fn(&mut Case); 10] = [
         |c| shorten(&mut c.dst_values),
         |c| shorten(&mut c.prepared),
+        |c| shorten(&mut c.remaining),
         |c| shorten(&mut c.work),
         |c| c.lent /= 2,
         |c| c.lent = c.lent.saturating_sub(1),
@@ -124,6 +125,6 @@ fn shorter_slices() -> Vec<Change> {
     edits.into_iter().map(change).collect()
 }
 
-fn shorten(slice: &mut Vec<u64>) {
+fn shorten<T>(slice: &mut Vec<T>) {
     slice.pop();
 }

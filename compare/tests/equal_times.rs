@@ -7,7 +7,7 @@ use std::collections::BTreeMap;
 
 use compare::call::{Call, Case, Outcome, UNSET};
 use compare::inputs::cases;
-use compare::judge::{self, Asked, Run, ROLLUPS, STEPS};
+use compare::judge::{self, Asked, ROLLUPS, STEPS};
 use compare::rng::Rng;
 use compare::window::{repeats, Window};
 use compare::words::{all_bits, bits};
@@ -27,6 +27,7 @@ fn case_of(timestamps: &[i64]) -> Case {
         reach: 1,
         dst_values: vec![UNSET],
         prepared: vec![UNSET; n],
+        remaining: vec![UNSET as i64; n],
         work: vec![UNSET; 2 * n],
         limit: 1.5,
         indexes: vec![UNSET; n],
@@ -374,8 +375,9 @@ fn accepted(call: Call) -> impl Iterator<Item = Case> {
 fn the_rule_is_the_rust_where_times_rise() {
     judge::quiet();
     for case in accepted(Call::Run).filter(|case| !repeats(&case.timestamps)) {
-        let values = oracle::prepared(&case);
-        let Case { settings, first, second, timestamps, .. } = case;
+        let (timestamps, values) = oracle::readings(&case);
+        let values = oracle::prepared(case.pre, &timestamps, &values);
+        let Case { settings, first, second, .. } = case;
         let asked = Asked {
             settings: &settings,
             number: case.rollup as usize,
@@ -384,11 +386,7 @@ fn the_rule_is_the_rust_where_times_rise() {
             values: &values,
             timestamps: &timestamps,
         };
-        let run = |judge: fn(Asked) -> Run| {
-            let run = judge(asked);
-            (all_bits(&run.answers), run.departed, run.count)
-        };
-        assert_eq!(run(judge::by_the_rule), run(judge::by_the_rust));
+        assert_eq!(judge::by_the_rule(asked), judge::by_the_rust(asked));
     }
 }
 

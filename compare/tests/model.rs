@@ -512,12 +512,12 @@ fn wait(timestamps: &[i64], time: i64, stated: f64) {
 }
 
 #[test]
-fn the_rollup_has_the_last_number() {
-    assert_eq!((ROLLUPS[UNTIL_NEXT as usize], ROLLUPS.len()), ("until_next", 49));
+fn the_rollups_have_their_numbers() {
+    assert_eq!((ROLLUPS[UNTIL_NEXT as usize], ROLLUPS.len()), ("until_next", 50));
     assert_eq!(ROLLUPS[..48], exposed::ROLLUPS.map(|(name, _)| name));
     let series = (vec![1000], vec![1.0]);
     let settings = grid(0, 0, 1, 1);
-    let case = Case { rollup: UNTIL_NEXT + 1, ..cases::average(&series, settings) };
+    let case = Case { rollup: ROLLUPS.len() as u32, ..cases::average(&series, settings) };
     for call in RUNS {
         let refused = oracle::outcome(call, &case);
         assert_eq!((refused.number, refused.index, refused.count), (28, 0, UNSET));
@@ -598,7 +598,7 @@ fn runs_of_waits() {
     }
 }
 
-/// Generated runs that ask until_next and are accepted, with their output times.
+/// Generated runs that ask until_next and are accepted, on the readings that are no marks, with their output times.
 fn waiting(call: Call) -> Vec<(Case, Vec<i64>)> {
     let cases = accepted(call, Some(UNTIL_NEXT)).into_iter();
     let short = cases.filter(|case| rows::points(case) <= 1000);
@@ -606,7 +606,11 @@ fn waiting(call: Call) -> Vec<(Case, Vec<i64>)> {
         let Settings { start, end, step, .. } = case.settings;
         (start..=end).step_by(step as usize).collect()
     };
-    short.map(|case| (case.clone(), outputs(&case))).collect()
+    let without_marks = |case: Case| {
+        let (timestamps, values) = oracle::readings(&case);
+        Case { timestamps, values, ..case }
+    };
+    short.map(without_marks).map(|case| (case.clone(), outputs(&case))).collect()
 }
 
 /// The count and the prepared values are those of any other rollup, and no value is looked at.
@@ -645,15 +649,15 @@ fn one_loop_finds_what_filters_find() {
 /// All that is generated with a given rollup asks it, but for the numbers that name none.
 #[test]
 fn a_given_rollup_is_asked() {
-    for rollup in [0, UNTIL_NEXT] {
+    for rollup in [0, 32, UNTIL_NEXT, 49] {
         let mut rng = Rng::new(1);
         let asked = (0..20_000).map(|_| cases::case(&mut rng, Call::Run, Some(rollup)).rollup);
         let asked: BTreeSet<u32> = asked.collect();
-        assert_eq!(asked, [rollup, 49, 50, u32::MAX].into());
+        assert_eq!(asked, [rollup, 50, 51, u32::MAX].into());
     }
     let mut rng = Rng::new(1);
     let drawn = (0..20_000).map(|_| cases::accepted(&mut rng, Call::Run, None).rollup);
-    assert_eq!(drawn.collect::<BTreeSet<u32>>(), (0..49).collect());
+    assert_eq!(drawn.collect::<BTreeSet<u32>>(), (0..50).collect());
 }
 
 #[test]
@@ -691,7 +695,7 @@ fn output_times_of_every_kind_are_asked() {
         assert!(many(&|times, t| model::wait(t, model::next(times, t)) >= high as f64 / 1e3));
         // A next reading whose prepared value is NaN.
         let nan = |(case, outputs): &&(Case, Vec<i64>)| {
-            let values = oracle::prepared(case);
+            let values = oracle::prepared(case.pre, &case.timestamps, &case.values);
             outputs.iter().any(|time| {
                 let next = case.timestamps.iter().position(|reading| reading > time);
                 next.is_some_and(|next| values[next].is_nan())

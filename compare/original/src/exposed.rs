@@ -10,6 +10,7 @@ use crate::common::math;
 use crate::execution;
 use crate::QueryValue;
 
+pub use crate::common::math::{is_stale_nan, STALE_NAN_BITS};
 pub use private::{intervals, max_prev_interval, scrape_interval, seek};
 
 pub fn quantile(phi: f64, values: &[f64]) -> f64 {
@@ -61,7 +62,7 @@ pub fn get_timestamps(start: i64, end: i64, step: i64, limit: usize) -> Result<V
     execution::get_timestamps(start, end, step, limit).map_err(|e| e.to_string())
 }
 
-/// The rollups in the order of their numbers.
+/// The rollups in the order of their numbers, from 0 on.
 pub const ROLLUPS: [(&str, RollupFunction); 48] = {
     use RollupFunction::*;
     [
@@ -116,9 +117,20 @@ pub const ROLLUPS: [(&str, RollupFunction); 48] = {
     ]
 };
 
+/// The number of `rollup_stale_samples`. The one between it and those above names none of the sources.
+pub const STALE_SAMPLES: usize = 49;
+
+/// A rollup's name and function by its number.
+fn named(rollup: usize) -> (&'static str, RollupFunction) {
+    match rollup {
+        STALE_SAMPLES => ("stale_samples", RollupFunction::StaleSamplesOverTime),
+        _ => ROLLUPS[rollup],
+    }
+}
+
 /// The per-call number of a rollup, from `rollup_samples_scanned_per_call`.
 pub fn samples_scanned_per_call(rollup: usize) -> usize {
-    private::samples_scanned_per_call(ROLLUPS[rollup].1)
+    private::samples_scanned_per_call(named(rollup).1)
 }
 
 /// A rollup with its parameters, as the sources make it.
@@ -127,15 +139,16 @@ pub struct Rollup(RollupHandler);
 impl Rollup {
     /// `first` is phi, seconds or the smoothing factor, `second` the trend factor.
     pub fn new(rollup: usize, first: f64, second: f64) -> Rollup {
-        let first_place = if ROLLUPS[rollup].0 == "quantile" { 0 } else { 1 };
+        let (name, function) = named(rollup);
+        let first_place = if name == "quantile" { 0 } else { 1 };
         let mut args = vec![QueryValue::Scalar(f64::NAN); first_place];
         args.extend([QueryValue::Scalar(first), QueryValue::Scalar(second)]);
-        Rollup(match ROLLUPS[rollup].0 {
+        Rollup(match name {
             "open" => FN_OPEN,
             "close" => FN_CLOSE,
             "high" => FN_HIGH,
             "low" => FN_LOW,
-            _ => get_rollup_function_handler(ROLLUPS[rollup].1, &args).unwrap(),
+            _ => get_rollup_function_handler(function, &args).unwrap(),
         })
     }
 

@@ -4,9 +4,9 @@
 use original::exposed::Settings;
 
 use super::series::TIME_LIMIT;
-use super::{crossings, equal_times, floats, merge, nearest, series, settings, until_next};
+use super::{crossings, equal_times, floats, marks, merge, nearest, series, settings, until_next};
 use crate::call::{Call, Case, UNSET};
-use crate::judge::{self, ROLLUPS, STEPS};
+use crate::judge::{self, ROLLUPS, SEE_MARKS, STEPS};
 use crate::rng::Rng;
 use crate::rows;
 
@@ -26,10 +26,15 @@ pub fn case(rng: &mut Rng, call: Call, rollup: Option<u32>) -> Case {
 fn of_the_rust(rng: &mut Rng, call: Call, rollup: Option<u32>) -> Case {
     let mut case = accepted(rng, call, rollup);
     spoils(rng, call, &mut case);
+    // What is drawn for other rows stays as it is.
+    match call {
+        Call::Run | Call::SettledRun => marks::spoil(&mut rng.aside(), &mut case, rollup),
+        _ => marks::refused(&mut rng.aside(), &mut case.values),
+    }
     case
 }
 
-/// A run whose times rise, or one that is spoiled.
+/// A run whose times rise, or one that is spoiled. It has no marks but where row 5 was to be broken.
 pub fn rising_run(rng: &mut Rng) -> Case {
     let n = series::length(rng);
     let mut case = of_readings(rng, (false, n), Call::Run, None);
@@ -38,10 +43,14 @@ pub fn rising_run(rng: &mut Rng) -> Case {
 }
 
 /// A call that the Rust judges and that is accepted. Half of them have equal times. A run of until_next may go to the
-/// limits.
+/// limits, and any run may have marks.
 pub fn accepted(rng: &mut Rng, call: Call, rollup: Option<u32>) -> Case {
     let readings = equal_times::half(rng);
-    of_readings(rng, readings, call, rollup)
+    let mut case = of_readings(rng, readings, call, rollup);
+    if rows::runs(call) {
+        marks::in_run(&mut rng.aside(), call, &mut case, rollup);
+    }
+    case
 }
 
 /// Such a call, with equal times or times that rise, of so many readings.
@@ -51,18 +60,21 @@ fn of_readings(rng: &mut Rng, (equal, n): (bool, usize), call: Call, rollup: Opt
     let most = rng.pick(&[1, 2, 3, 10, 40]);
     let settings = settings::settings(rng, &timestamps, most);
     let drawn = rng.below(ROLLUPS.len() as u64) as u32;
+    let rollup = rollup.unwrap_or(drawn);
+    // Row 19 would refuse another step.
+    let no_step = rows::runs(call) && SEE_MARKS.contains(&(rollup as usize));
     let mut case = Case {
         timestamps,
         values: values.iter().map(|v| v.to_bits()).collect(),
-        pre: step as u32,
-        rollup: rollup.unwrap_or(drawn),
+        pre: if no_step { 0 } else { step as u32 },
+        rollup,
         first: floats::parameter(rng),
         second: floats::parameter(rng),
         settings,
         ..Case::default()
     };
     let settled_run = call == Call::SettledRun;
-    if (settled_run || call == Call::Run) && ROLLUPS[case.rollup as usize] == "until_next" {
+    if rows::runs(call) && ROLLUPS[case.rollup as usize] == "until_next" {
         // What is drawn for the other rollups stays as it is.
         until_next::to_the_limits(&mut rng.aside(), &mut case);
     }
@@ -76,6 +88,7 @@ fn of_readings(rng: &mut Rng, (equal, n): (bool, usize), call: Call, rollup: Opt
     let points = rows::points(&case) as usize;
     case.dst_values = slice(rng, points);
     case.prepared = slice(rng, n);
+    case.remaining = slice(&mut rng.aside(), n).into_iter().map(|bits| bits as i64).collect();
     case.work = slice(rng, 2 * n);
     case
 }
@@ -118,6 +131,7 @@ pub fn average((timestamps, values): &(Vec<i64>, Vec<f64>), settings: Settings) 
         settings,
         reach: 300_000,
         prepared: vec![UNSET; readings + 1],
+        remaining: vec![UNSET as i64; readings + 1],
         work: vec![UNSET; 2 * readings + 1],
         ..Case::default()
     };
@@ -174,7 +188,7 @@ fn spoil(rng: &mut Rng, call: Call, case: &mut Case) {
         13 => case.prepared.truncate(n.saturating_sub(1) as usize),
         14 => case.work.truncate((2 * n).saturating_sub(1) as usize),
         0 if rng.once_in(2) => case.pre = rng.pick(&[6, 7, u32::MAX]),
-        0 => case.rollup = rng.pick(&[49, 50, u32::MAX]),
+        0 => case.rollup = rng.pick(&[50, 51, u32::MAX]),
         _ => {}
     }
 }

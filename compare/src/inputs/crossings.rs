@@ -2,7 +2,7 @@
 //! with equal times, index slices of every length that matters, and rows that are offended by one, two and three.
 
 use super::cases::{not_finite, place, spoil_series, MOST};
-use super::{equal_times, floats};
+use super::{equal_times, floats, marks};
 use crate::call::{Case, UNSET};
 use crate::model;
 use crate::rng::Rng;
@@ -18,6 +18,7 @@ pub fn case(rng: &mut Rng) -> Case {
     for _ in 0..rng.pick(&[0, 0, 0, 1, 1, 2, 2, 3]) {
         spoil(rng, &mut case);
     }
+    marks::refused(&mut rng.aside(), &mut case.values);
     lend(rng, &mut case);
     case
 }

@@ -3,7 +3,7 @@
 //! times.
 
 use super::cases::{place, spoil_series, MOST};
-use super::{equal_times, floats, series};
+use super::{equal_times, floats, marks, series};
 use crate::call::{Case, UNSET};
 use crate::model;
 use crate::rng::Rng;
@@ -27,6 +27,10 @@ pub fn case(rng: &mut Rng) -> Case {
             equal_times::once(rng, timestamps);
         }
     }
+    let mut aside = rng.aside();
+    let [(_, first), (_, second)] = case.series_mut();
+    let values = if aside.once_in(2) { first } else { second };
+    marks::refused(&mut aside, values);
     lend(rng, &mut case);
     case
 }

@@ -4,6 +4,7 @@ pub mod cases;
 pub mod crossings;
 pub mod equal_times;
 pub mod floats;
+pub mod marks;
 pub mod merge;
 pub mod nearest;
 pub mod reaches;

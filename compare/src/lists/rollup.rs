@@ -16,7 +16,7 @@ use crate::words::{all_bits, bits, times, List};
 pub const CASES: &str = "first, second (the parameters), prev_value, prev_timestamp, \
     real_prev_value, real_next_value, has_next (0 or 1), next_timestamp (0 if none), curr_timestamp, \
     window, n, n times, n values, a word whose bit k says that a departure was applied to rollup k, \
-    then the answers of rollups 0 to 48";
+    then the answers of rollups 0 to 49";
 
 pub fn make(rng: &mut Rng, list: &mut List) {
     for _ in 0..700 {

@@ -1,21 +1,25 @@
-//! Whole runs: each series and grid with every rollup; then runs that are refused, and both of series with equal times.
+//! Whole runs: each series and grid with every rollup; then runs that are refused, and both of series with equal times
+//! and of series with staleness marks.
 
 use original::exposed::Settings;
 
 use super::{mask, setting_words};
-use crate::call::{Call, Case};
-use crate::inputs::{cases, equal_times, floats, series, settings};
-use crate::judge::{Asked, Run, ROLLUPS};
+use crate::call::{Call, Case, Series};
+use crate::inputs::{cases, equal_times, floats, marks, series, settings};
+use crate::judge::{Asked, Run, ROLLUPS, SEE_MARKS};
+use crate::model::{self, MARK};
 use crate::rng::Rng;
 use crate::words::{all_bits, bits, times, List};
-use crate::{judge, rows};
+use crate::{judge, oracle, rows};
 
 pub const CASES: &str = "step, first, second (the parameters), n, n times, n values, start, end, \
     step, window, may_adjust_window, is_default_rollup, lookback_delta, min_staleness_interval, \
-    max_points_per_series, samples_scanned_per_call, then the settled window, the reach, the count, \
-    a word whose bit k says that a departure was applied to rollup k, g, and for each of \
-    rollups 0 to 48 its g answers; where g is 0 the run is refused, with no place for an answer \
-    lent, and the number and the index of the refusal stand for window and reach";
+    max_points_per_series, samples_scanned_per_call, then the settled window, the reach, the count \
+    and g of the runs on the remaining readings, the same four of the runs that see staleness marks \
+    (rollups 32 and 49), a word whose bit k says that a departure was applied to rollup k, and for \
+    each of rollups 0 to 49 its answers, as many as its own g; where a g is 0 the run is refused, and \
+    the number and the index of the refusal stand for window and reach: for the runs that see marks \
+    after a step, and where no place for an answer is lent for all";
 
 /// The rows of docs/REFUSALS.md that a run is refused by here. The others are about slices whose lengths
 /// are not in the list.
@@ -51,6 +55,19 @@ pub fn make(rng: &mut Rng, list: &mut List) {
     for _ in 0..8 {
         falling(rng, list);
     }
+    // Half of them after no step, where the rollups that see marks are accepted.
+    for case in 0..72 {
+        let step = if case % 2 == 0 { 0 } else { 1 + case / 2 % (judge::STEPS.len() - 1) };
+        marked(rng, list, step, case < 12);
+    }
+    for pattern in marks::LIKE_MARKS {
+        beside_marks(rng, list, |case, place| case.values[place] = pattern);
+    }
+    for _ in 0..3 {
+        beside_marks(rng, list, |case, place| case.timestamps[place] = -(1 << 50) - 1);
+        beside_marks(rng, list, |case, place| case.timestamps[place] -= 1 << 49);
+        beside_marks(rng, list, |_, _| {});
+    }
 }
 
 fn accepted(
@@ -63,7 +80,7 @@ fn accepted(
 ) {
     let parameters = (floats::parameter(rng), floats::parameter(rng));
     let s = settings::settings(rng, timestamps, points);
-    put(list, step, parameters, timestamps, values, &s);
+    put(list, step, parameters, (timestamps, &all_bits(values)), &s);
 }
 
 /// A run over equal times at the edges of its windows; where that is asked for, one in which the Rust goes by halves for
@@ -76,7 +93,7 @@ fn equal(rng: &mut Rng, list: &mut List, step: usize, by_halves: bool) {
         let s = settings::settings(rng, &timestamps, 7);
         equal_times::at_edges(rng, &mut timestamps, &s, None);
         if !by_halves || leaves_open(&timestamps, s.start) {
-            return put(list, step, parameters, &timestamps, &values, &s);
+            return put(list, step, parameters, (&timestamps, &all_bits(&values)), &s);
         }
     }
 }
@@ -87,26 +104,59 @@ fn leaves_open(timestamps: &[i64], time: i64) -> bool {
     timestamps.len() > 15 && timestamps[2] <= time && after > 1
 }
 
+/// A run on a series with marks, or on marks alone. In some the times are equal, and in some the marks stand where the
+/// windows of rollups that see them end and begin.
+fn marked(rng: &mut Rng, list: &mut List, step: usize, only_marks: bool) {
+    let n = rng.between(2, 40) as usize;
+    let (mut timestamps, values) = series::for_step(rng, step, n);
+    let parameters = (floats::parameter(rng), floats::parameter(rng));
+    let settings = settings::settings(rng, &timestamps, 7);
+    if rng.once_in(3) {
+        equal_times::at_edges(rng, &mut timestamps, &settings, None);
+    }
+    let rollup = if step == 0 { SEE_MARKS[0] as u32 } else { 0 };
+    let values = all_bits(&values);
+    let mut case = Case { timestamps, values, rollup, settings, ..Case::default() };
+    match only_marks {
+        true => case.values.fill(MARK),
+        false => marks::put(rng, Call::Run, &mut case),
+    }
+    put(list, step, parameters, case.series()[0], &case.settings);
+}
+
 fn put(
     list: &mut List,
     step: usize,
     (first, second): (f64, f64),
-    timestamps: &[i64],
-    values: &[f64],
+    (timestamps, values): Series,
     s: &Settings,
 ) {
-    let mut prepared = values.to_vec();
-    judge::prepare(step, timestamps, &mut prepared);
-    let (window, reach) = judge::settle(s, timestamps);
-    let asked =
-        |number| Asked { settings: s, number, first, second, values: &prepared, timestamps };
-    let runs: Vec<Run> = (0..ROLLUPS.len()).map(|number| judge::run(asked(number))).collect();
+    let all = (timestamps.to_vec(), values.to_vec());
+    let remaining = model::remaining((timestamps, values));
+    let run = |number: usize| {
+        let sees_marks = SEE_MARKS.contains(&number);
+        if sees_marks && step > 0 {
+            return Run::default();
+        }
+        let (timestamps, values) = if sees_marks { &all } else { &remaining };
+        let values = &oracle::prepared(step as u32, timestamps, values);
+        judge::run(Asked { settings: s, number, first, second, values, timestamps })
+    };
+    let runs: Vec<Run> = (0..ROLLUPS.len()).map(run).collect();
+    let accepted = |timestamps: &[i64], run: &Run| {
+        let (window, reach) = judge::settle(s, timestamps);
+        [window as u64, reach as u64, run.count, run.answers.len() as u64]
+    };
 
-    let mut words = given(step as u64, first, second, timestamps, &all_bits(values), s);
-    words.extend([window as u64, reach as u64, runs[0].count]);
+    let mut words = given(step as u64, first, second, timestamps, values, s);
+    words.extend(accepted(&remaining.0, &runs[0]));
+    words.extend(match step {
+        0 => accepted(timestamps, &runs[SEE_MARKS[0]]),
+        _ => [19, 0, 0, 0],
+    });
     let departed: Vec<bool> = runs.iter().map(|run| run.departed.contains(&true)).collect();
-    words.extend([mask(&departed), runs[0].answers.len() as u64]);
-    words.extend(runs.iter().flat_map(|run| all_bits(&run.answers)));
+    words.push(mask(&departed));
+    words.extend(runs.into_iter().flat_map(|run| run.answers));
     list.case(&words);
 }
 
@@ -147,11 +197,27 @@ fn falling(rng: &mut Rng, list: &mut List) {
     put_refused(list, &case, number, index);
 }
 
+/// A run that is refused on a series with marks, which stand at the place of the edit and before it.
+fn beside_marks(rng: &mut Rng, list: &mut List, edit: impl Fn(&mut Case, usize)) {
+    let n = rng.between(3, 14);
+    let (timestamps, values) = series::series(rng, n as usize);
+    let settings = settings::settings(rng, &timestamps, 7);
+    let values = all_bits(&values);
+    let mut case = Case { timestamps, values, settings, ..Case::default() };
+    marks::anywhere(rng, &mut case.values);
+    let place = rng.between(1, n - 1) as usize;
+    case.values[place - 1..=place].fill(MARK);
+    edit(&mut case, place);
+    let (number, index) = rows::refusal(Call::Run, &case).unwrap();
+    put_refused(list, &case, number, index);
+}
+
 /// A run that is refused, with no place for an answer lent.
 fn put_refused(list: &mut List, case: &Case, number: u64, index: u64) {
     let (pre, times) = (case.pre as u64, &case.timestamps);
     let given = given(pre, case.first, case.second, times, &case.values, &case.settings);
-    list.case(&[given, vec![number, index, 0, 0, 0]].concat());
+    let refused = [number, index, 0, 0];
+    list.case(&[&given[..], &refused, &refused, &[0]].concat());
 }
 
 /// The words of what a run is given.
