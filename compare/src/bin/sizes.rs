@@ -1,7 +1,7 @@
 //! `sizes` calls the port with long series and grids: thirty years of a reading a minute under each
-//! rollup, as many readings and output times as are accepted, and one more, as many readings with equal times, and
-//! two logs that have as many times together, and one more. What is accepted is held to the Rust, the window rule or
-//! the model, what is refused to the number of docs/REFUSALS.md.
+//! rollup, as many readings and output times as are accepted, and one more, as many readings with staleness marks and
+//! with equal times, and two logs that have as many times together, and one more. What is accepted is held to the Rust,
+//! the window rule or the model, what is refused to the number of docs/REFUSALS.md.
 
 use std::ops::Range;
 use std::process::exit;
@@ -11,6 +11,7 @@ use compare::inputs::cases::average;
 use compare::inputs::merge::of_times;
 use compare::inputs::series::counter;
 use compare::judge::{self, ROLLUPS, STEPS};
+use compare::model::MARK;
 use compare::{cuts, oracle, port, rows};
 use original::exposed::Settings;
 
@@ -26,6 +27,13 @@ const EQUAL: [(&str, fn(i64) -> i64, i64); 2] = [
     ("all times equal", |_| 0, 1),
     ("two readings at each time", |place| place / 2 * 60_000, 60_000 << 21),
 ];
+
+/// Series with staleness marks, by a reading's place.
+const MARKED: [(&str, fn(usize) -> bool); 2] =
+    [("every tenth reading a mark", |place| place % 10 == 0), ("all readings marks", |_| true)];
+
+/// Rollups that are asked of these: one for which the marks are taken out, and the two that see them.
+const OF_MARKS: [&str; 3] = ["avg", "default", "stale_samples"];
 
 /// Rollups that divide by how far times lie apart.
 const OVER_TIME: [&str; 2] = ["deriv_fast", "ideriv"];
@@ -88,6 +96,12 @@ fn main() {
         for (name, call) in Call::ALL {
             tally.call(call, &series, number, name);
         }
+    }
+    for (what, is_mark) in MARKED {
+        for (readings, number) in [(MOST, 0), (MOST + 1, 2)] {
+            marks(&mut tally, what, is_mark, average(&counter(readings), minutes(1000)), number);
+        }
+        marks(&mut tally, what, is_mark, average(&counter(1000), minutes(MOST)), 0);
     }
     for (what, time, step) in EQUAL {
         equal_times(&mut tally, what, time, step);
@@ -164,6 +178,19 @@ fn equal_times(tally: &mut Tally, what: &str, time: fn(i64) -> i64, step: i64) {
         if OVER_TIME.contains(name) {
             series.rollup = number as u32;
             tally.call(Call::Run, &series, 0, &format!("{name}, {what}"));
+        }
+    }
+}
+
+/// Both runs of a series with marks.
+fn marks(tally: &mut Tally, what: &str, is_mark: fn(usize) -> bool, mut case: Case, number: u64) {
+    let places = case.values.iter_mut().enumerate();
+    places.filter(|(place, _)| is_mark(*place)).for_each(|(_, value)| *value = MARK);
+    for (rollup, name) in ROLLUPS.iter().enumerate() {
+        if OF_MARKS.contains(name) {
+            case.rollup = rollup as u32;
+            tally.call(Call::Run, &case, number, &format!("{name}, {what}"));
+            tally.call(Call::SettledRun, &case, number, &format!("{name} settled, {what}"));
         }
     }
 }

@@ -6,13 +6,16 @@
 //! `bench prepare [READINGS]`: each preparing step beside a copy and the Rust's pre-function, which is
 //! charged with the port's checks of the series.
 //! `bench run [READINGS]`: the port's run of each rollup beside the Rust's `do_internal`, over a few
-//! long windows and over many short ones. The Rust is charged with checks, copy and clearing.
+//! long windows and over many short ones. The Rust is charged with checks, copies and clearing.
+//! `bench marks [READINGS]`: the port's run of each rollup on a series in which every tenth reading is a
+//! staleness mark, and `ratio`, its time over that of the same run on the series without marks.
 //! `bench growth [READINGS]`: nanoseconds a reading of some runs, from 10,000 readings up to so many.
 //! `bench crossings [READINGS]`, `bench nearest [READINGS]`: the port's call beside the plain loops of
 //! `plain`, which check the same rows. `ratio` is the port's time over the Rust's.
 //! `bench merge [READINGS]`: the same for two logs of up to so many readings.
 //! `bench settle`: nanoseconds of settle on the series of a panel, and of its parts.
 
+mod marks;
 mod merge;
 mod settle;
 
@@ -43,6 +46,7 @@ fn main() {
     match words.first().map(String::as_str) {
         Some("prepare") if port::has(Call::Prepare) => prepare(readings.unwrap_or(15_800_000)),
         Some("run") if port::has(Call::Run) => run(readings.unwrap_or(1_000_000)),
+        Some("marks") if port::has(Call::Run) => marks::marks(readings.unwrap_or(1_000_000)),
         Some("settle") if port::has(Call::Settle) => settle::settle(),
         Some("growth") if port::has(Call::Run) => growth(readings.unwrap_or(16_000_000)),
         Some("crossings") if port::has(Call::Crossings) => {
@@ -142,15 +146,17 @@ fn run(readings: usize) {
     judge::quiet();
     for (title, make) in KINDS {
         let series = make(readings);
-        let calls = WINDOWS.map(|(outputs, window)| {
-            let (start, step) = (series.0[0], (series.0[readings - 1] - series.0[0]) / outputs);
-            let end = start + step * (outputs - 1);
-            let case =
-                average(&series, Settings { start, end, step, window, ..Settings::default() });
-            runs(case, &series.1)
-        });
+        let calls = WINDOWS.map(|windows| runs(over(&series, windows), &series.1));
         table(title, readings, "rollup", &calls);
     }
+}
+
+/// A run over all of a series, with so many output times and such a window.
+fn over(series: &(Vec<i64>, Vec<f64>), (outputs, window): (i64, i64)) -> Case {
+    let (start, last) = (series.0[0], series.0[series.0.len() - 1]);
+    let step = (last - start) / outputs;
+    let end = start + step * (outputs - 1);
+    average(series, Settings { start, end, step, window, ..Settings::default() })
 }
 
 /// The times of each rollup, and of avg after each step.
@@ -186,9 +192,9 @@ fn runs(mut case: Case, values: &[f64]) -> Vec<Line> {
     lines
 }
 
-/// What the port does besides figures and the Rust does not: the checks of the series, the copy into
-/// the prepared slice and the clearing of the work slice. It is a run that counts the readings of
-/// one window.
+/// What the port does besides figures and the Rust does not: the checks of the series, the copies into
+/// the prepared slice and the slice for the remaining times, and the clearing of the work slice. It is
+/// a run that counts the readings of one window.
 fn fixed(case: &Case) -> Case {
     let rollup = ROLLUPS.iter().position(|name| *name == "count").unwrap() as u32;
     let settings = Settings { end: case.settings.start, ..case.settings.clone() };
@@ -311,8 +317,8 @@ fn best(mut round: impl FnMut() -> f64) -> f64 {
 
 fn usage() -> ! {
     eprintln!(
-        "bench prepare|run|growth|crossings|nearest|merge [READINGS] or bench settle, with an archive that \
-         has the call"
+        "bench prepare|run|marks|growth|crossings|nearest|merge [READINGS] or bench settle, with an \
+         archive that has the call"
     );
     exit(2)
 }
