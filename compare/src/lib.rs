@@ -1,6 +1,6 @@
 //! The Rust as the judge of the port: what it answers, generated inputs, the fixed lists for the
 //! gate, and the comparison with the exported functions. Of what the Rust does not have, the judge is
-//! a model, of runs over equal times the window rule.
+//! a model, of runs over equal times and of those that see staleness marks the window rule.
 
 pub mod arguments;
 pub mod call;
