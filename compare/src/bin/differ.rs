@@ -1,10 +1,10 @@
 //! `differ WHAT --cases N --seed S` compares the port with its judge on N generated calls; WHAT is
 //! prepare, settle, run or settled_run, which the Rust judges, crossings, nearest or merge, which the model
 //! judges as it does the step, the rollup and the filter of staleness marks that the Rust does not have, or
-//! cuts: accepted runs with the settled runs that they are cut into, or reaches: settle of every estimate of `inputs::reaches`, however
-//! many cases are asked for, or all (what the archive has the functions for). With `--rollup R` every
-//! generated run, settled run and cut asks rollup R, but for those that are to name none. Of runs it says how often the
-//! Rust's own run gives what the window rule gives, which judges series with equal times.
+//! cuts: accepted runs with the settled runs that they are cut into, or reaches: settle of every estimate of
+//! `inputs::reaches`, however many cases are asked for, or all (what the archive has the functions for). With
+//! `--rollup R` every generated run, settled run and cut asks rollup R, but for those that are to name none. Of runs
+//! it says how often the Rust's own run gives what the window rule gives, which judges series with equal times.
 
 use std::collections::BTreeMap;
 use std::process::exit;
