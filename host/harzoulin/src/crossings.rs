@@ -3,7 +3,7 @@
 use crate::{Refusal, lent};
 
 /// The index of each reading that lies on the other side of a limit from the one before it, in order:
-/// below is less than the limit, above is all else.
+/// below is less than the limit, above is all else. A staleness mark is refused, as any NaN.
 ///
 /// ```
 /// let (timestamps, values) = ([0, 60_000, 120_000, 180_000], [39.0, 40.0, 41.0, 12.0]);

@@ -9,25 +9,36 @@
 use crate::exported::*;
 use crate::{Refusal, Rollup, Settings, Settled, SettledSettings, Step};
 
-/// The slices that a run is lent. On success the first entries of `output` are the figures, those
-/// of `prepared` the prepared values, and twice as many of `work` are 0.0.
+/// The slices that a run is lent. On success the first entries of `output` are the figures, those of
+/// `remaining` the times of the readings that the figures are made of, as many of `prepared` their
+/// prepared values, and twice as many of `work` are 0.0. What lies past them is as it was.
 #[derive(Debug)]
 pub struct Slices<'a> {
     /// At least one entry for each output time.
     pub output: &'a mut [f64],
-    /// At least one entry for each reading.
+    /// At least one entry for each reading, marks too.
     pub prepared: &'a mut [f64],
-    /// At least two entries for each reading.
+    /// At least one entry for each reading, marks too.
+    pub remaining: &'a mut [i64],
+    /// At least two entries for each reading, marks too.
     pub work: &'a mut [f64],
 }
 
+type Crossing = (Slice<*mut Output>, Slice<*mut Prepared>, Slice<*mut Remaining>, Slice<*mut Work>);
+
 impl Slices<'_> {
-    fn crossing(&mut self) -> (Slice<*mut Output>, Slice<*mut Prepared>, Slice<*mut Work>) {
-        (Output::of(self.output), Prepared::of(self.prepared), Work::of(self.work))
+    fn crossing(&mut self) -> Crossing {
+        (
+            Output::of(self.output),
+            Prepared::of(self.prepared),
+            Remaining::of(self.remaining),
+            Work::of(self.work),
+        )
     }
 }
 
-/// The window, the reach and the number of output times of a run on these times.
+/// The window, the reach and the number of output times of a run on these times. It sees no values: where
+/// some are marks, it is handed the [`remaining`](crate::remaining) times.
 pub fn settle(timestamps: &[i64], settings: &Settings) -> Result<Settled, Refusal> {
     let s = settings;
     let (mut window, mut reach, mut points, mut index) = (0, 0, 0, 0);
@@ -57,7 +68,8 @@ pub fn settle(timestamps: &[i64], settings: &Settings) -> Result<Settled, Refusa
     Ok(Settled { window, reach, points: points as usize })
 }
 
-/// Writes the values after a preparing step to the first entries of `prepared`.
+/// Writes the values after a preparing step to the first entries of `prepared`. A mark is refused, as any
+/// NaN.
 pub fn prepare(
     timestamps: &[i64],
     values: &[f64],
@@ -73,7 +85,7 @@ pub fn prepare(
     accepted(number, index)
 }
 
-/// Writes one figure for each output time and gives the count.
+/// Writes one figure for each output time and gives the count. Values may be [`STALE`](crate::STALE).
 pub fn run(
     timestamps: &[i64],
     values: &[f64],
@@ -85,7 +97,7 @@ pub fn run(
     let (s, (first, second)) = (settings, rollup.parameters());
     let (mut count, mut index) = (0, 0);
     let (times, values) = (Times::of(timestamps), Values::of(values));
-    let (output, prepared, work) = slices.crossing();
+    let (output, prepared, remaining, work) = slices.crossing();
     // Safe: the lent slices are borrowed for writing, so none overlaps another of the call.
     let number = unsafe {
         ask!(
@@ -107,7 +119,7 @@ pub fn run(
                 s.max_points_per_series,
                 s.samples_scanned_per_call,
             ],
-            [output, prepared, work],
+            [output, prepared, remaining, work],
             [count, index]
         )
     };
@@ -126,7 +138,7 @@ pub fn settled_run(
     let (s, (first, second)) = (settings, rollup.parameters());
     let (mut count, mut index) = (0, 0);
     let (times, values) = (Times::of(timestamps), Values::of(values));
-    let (output, prepared, work) = slices.crossing();
+    let (output, prepared, remaining, work) = slices.crossing();
     // Safe: as for `run`.
     let number = unsafe {
         ask!(
@@ -144,7 +156,7 @@ pub fn settled_run(
                 s.reach,
                 s.samples_scanned_per_call,
             ],
-            [output, prepared, work],
+            [output, prepared, remaining, work],
             [count, index]
         )
     };
@@ -153,7 +165,7 @@ pub fn settled_run(
 
 /// Writes the index of each reading that lies on the other side of a limit from the one before it to
 /// the first entries of `indexes`, in order, and gives how many there are. Below is less than the
-/// limit, above is all else.
+/// limit, above is all else. A mark is refused, as any NaN.
 pub fn crossings(
     timestamps: &[i64],
     values: &[f64],
@@ -188,7 +200,8 @@ pub fn nearest(timestamps: &[i64], time: i64) -> Result<Option<usize>, Refusal> 
 }
 
 /// Writes the readings that are in at least one of two series, those in both once, to the first
-/// entries of `timestamps` and `values`, by their times, and gives how many there are.
+/// entries of `timestamps` and `values`, by their times, and gives how many there are. A mark is refused,
+/// as any NaN.
 ///
 /// The first series is looked at before the second, and both before the result: a refusal of 1 to 5
 /// is of the first if that, merged with an empty one, is refused so, too.

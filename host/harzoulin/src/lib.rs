@@ -5,7 +5,8 @@
 //! [`Rollup`] makes one figure of the readings of each window, and [`Settings`] give the grid and
 //! the window. A [`Workspace`] owns the memory that a run needs and is used again for the next.
 //! [`crossings`] and [`nearest`] find readings: where the values go over a limit or back under it, and
-//! the one next to a time. [`merge`] makes one series of two logs.
+//! the one next to a time. [`merge`] makes one series of two logs. A run takes [`STALE`] as a value, the
+//! staleness mark of a series that went away.
 //!
 //! ```
 //! use harzoulin::{Rollup, Settings, Step, Workspace};
@@ -22,6 +23,7 @@
 mod crossings;
 mod exported;
 pub mod lent;
+mod marks;
 mod merge;
 mod refusal;
 mod rollup;
@@ -32,6 +34,7 @@ mod workspace;
 
 pub use crossings::crossings;
 pub use lent::{nearest, settle};
+pub use marks::{STALE, is_stale, remaining};
 pub use merge::merge;
 pub use refusal::Refusal;
 pub use rollup::{About, Group, ROLLUPS, Rollup, Unit, UnknownRollup};

@@ -4,7 +4,8 @@ use crate::{MOST, Refusal, lent};
 
 /// The times and the values of the readings that are in at least one of two series, by their times.
 /// A reading that is in both is there once; a time with values of different bits is refused. In each of
-/// the two series every time is above the one before: here alone are equal times refused.
+/// the two series every time is above the one before: here alone are equal times refused. A staleness
+/// mark is refused, as any NaN.
 ///
 /// ```
 /// let panel = ([0, 60_000, 120_000], [16.5, 16.75, 17.0]);

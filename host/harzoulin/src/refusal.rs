@@ -18,7 +18,7 @@ pub enum Refusal {
     Order(usize),
     /// 4, of a merge: a time not above the one before.
     NotRising(usize),
-    /// 5: a value NaN or infinite.
+    /// 5: a value NaN or infinite. A run takes [`STALE`](crate::STALE), which all other calls refuse.
     Value(usize),
     /// 6: the step of the grid outside 1 to 2^50.
     Step,
@@ -34,7 +34,7 @@ pub enum Refusal {
     Grid,
     /// 12: the output shorter than the grid.
     Output,
-    /// 13: the prepared slice shorter than the series.
+    /// 13: the prepared slice shorter than the series; in a run, that or the one for the remaining times.
     Prepared,
     /// 14: the work slice under twice the series.
     Work,
@@ -46,6 +46,8 @@ pub enum Refusal {
     Conflict,
     /// 18: a result slice shorter than the merged series.
     Merged,
+    /// 19: a rollup that sees marks with a preparing step other than none.
+    StepOfMarks,
     /// 28: a number that names no step or rollup.
     Choice,
 }
@@ -74,6 +76,7 @@ impl Refusal {
             16 => Refusal::Indexes,
             17 => Refusal::Conflict,
             18 => Refusal::Merged,
+            19 => Refusal::StepOfMarks,
             28 => Refusal::Choice,
             _ => return None,
         })
@@ -108,6 +111,7 @@ impl Refusal {
             Refusal::Indexes => 16,
             Refusal::Conflict => 17,
             Refusal::Merged => 18,
+            Refusal::StepOfMarks => 19,
             Refusal::Choice => 28,
         }
     }
@@ -150,12 +154,18 @@ impl Refusal {
             Refusal::Points => "the grid has more output times than the point limit allows",
             Refusal::Grid => "the grid has over 16,777,216 output times",
             Refusal::Output => "the output is shorter than the grid",
-            Refusal::Prepared => "the prepared slice is shorter than the series",
+            Refusal::Prepared => {
+                "the prepared slice, or in a run that for the remaining times, is shorter than the \
+                 series"
+            }
             Refusal::Work => "the work slice is under twice the series",
             Refusal::CrossingLimit => "the limit of the crossings is NaN or infinite",
             Refusal::Indexes => "the index slice is shorter than the number of crossings",
             Refusal::Conflict => "a time has values of different bits in the two series",
             Refusal::Merged => "a result slice is shorter than the merged series",
+            Refusal::StepOfMarks => {
+                "default or stale_samples is asked for with a preparing step other than none"
+            }
             Refusal::Choice => "the number names no step or rollup",
         }
     }

@@ -1,4 +1,4 @@
-//! The 49 rollups. The table at the end of this file has a row for each, in the order of the
+//! The 50 rollups. The table at the end of this file has a row for each, in the order of the
 //! numbers by which the core knows them.
 
 use std::error::Error;
@@ -116,6 +116,11 @@ impl Rollup {
         &ROLLUPS[self.number() as usize]
     }
 
+    /// Whether it sees staleness marks. For all others they are taken out of the series before.
+    pub fn sees_marks(self) -> bool {
+        matches!(self, Rollup::Default | Rollup::StaleSamples)
+    }
+
     /// The parameters, 0 where there is none.
     pub(crate) fn parameters(self) -> (f64, f64) {
         match self {
@@ -196,7 +201,7 @@ macro_rules! rollups {
         }
 
         /// A row for each rollup, in the order of their numbers.
-        pub const ROLLUPS: [About; 49] = [
+        pub const ROLLUPS: [About; 50] = [
             $(About {
                 name: $name,
                 parameters: &[$($(stringify!($parameter)),+)?],
@@ -241,7 +246,7 @@ rollups! {
     "descent_over_time" DescentOverTime Increase Value "the sum of all falls"
     "zscore_over_time" ZscoreOverTime Spread Number "how many standard deviations the last value lies from the mean"
     "first" First Level Value "the first value"
-    "default" Default Level Value "the last value"
+    "default" Default Level Value "the last value, also where it is a staleness mark"
     "distinct" Distinct Presence Number "the number of different values"
     "deriv_slow" DerivSlow Slope PerSecond "the slope of the line of least squares"
     "deriv_fast" DerivFast Slope PerSecond "the slope from the predecessor, or else the first reading, to the last"
@@ -258,4 +263,5 @@ rollups! {
     "predict_linear" PredictLinear(seconds) Slope Value "where the line of least squares is after that many seconds"
     "holt_winters" HoltWinters(smoothing, trend) Slope Value "double exponential smoothing"
     "until_next" UntilNext Time Seconds "from the output time to the next reading, whatever the window holds"
+    "stale_samples" StaleSamples Presence Number "the number of staleness marks"
 }

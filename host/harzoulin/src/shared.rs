@@ -3,14 +3,15 @@
 //!
 //! That the answers joined are those of the whole run is proved for every cut (`Rejoined` of
 //! crates/claims/specs/Cut.antt), so neither the lengths of the stretches nor the order in which
-//! they are worked out can be seen in the figures. Each stretch counts all readings of the series,
-//! which the whole run counts once.
+//! they are worked out can be seen in the figures. Each stretch counts all readings that remain of the
+//! series, which the whole run counts once.
 
 use std::panic::resume_unwind;
 use std::sync::Mutex;
 use std::thread;
 use std::time::{Duration, Instant};
 
+use crate::marks::remaining_count;
 use crate::workspace::Room;
 use crate::{Refusal, Rollup, SettledSettings, Step, lent};
 
@@ -29,6 +30,8 @@ const SMALL: usize = 8;
 /// A run with all that its threads share.
 pub(crate) struct Shared<'a> {
     series: (&'a [i64], &'a [f64]),
+    /// How many of its readings the figures are made of.
+    remaining: u64,
     pre: Step,
     rollup: Rollup,
     settings: SettledSettings,
@@ -59,12 +62,14 @@ impl<'a> Shared<'a> {
     ) -> Shared<'a> {
         let share = output.len().div_ceil(threads);
         let rest = Mutex::new(Stretch { start: settings.start, output });
-        Shared { series, pre, rollup, settings, rest, threads, share, done }
+        let remaining = remaining_count(series.1, rollup) as u64;
+        Shared { series, remaining, pre, rollup, settings, rest, threads, share, done }
     }
 
     /// Works all of it out, on this thread and the others, and gives the count of the whole run.
-    /// This thread's first stretch is taken before any other can take it, so that the prepared
-    /// values are in its room. The rooms of the others are taken from a store and put back.
+    /// This thread's first stretch is taken before any other can take it, so that the remaining times
+    /// and their prepared values are in its room. The rooms of the others are taken from a store and
+    /// put back.
     pub(crate) fn count(&self, own: &mut Room, store: &mut Vec<Room>) -> Result<u64, Refusal> {
         let stretch = self.take_first();
         let scanned = thread::scope(|scope| {
@@ -80,7 +85,7 @@ impl<'a> Shared<'a> {
                 Ok(sum? + scanned?)
             })
         })?;
-        Ok(self.series.0.len() as u64 + scanned)
+        Ok(self.remaining + scanned)
     }
 
     /// Works stretches out in a room and gives it back, with what was scanned. Without the memory
@@ -126,7 +131,7 @@ impl<'a> Shared<'a> {
     }
 
     /// Writes the figures of a stretch and gives what was scanned for its output times: its count
-    /// without the readings of the series.
+    /// without the readings that remain of the series.
     fn scanned(&self, room: &mut Room, stretch: Stretch) -> Result<u64, Refusal> {
         let (start, points) = (stretch.start, stretch.output.len());
         let end = start + (points as i64 - 1) * self.settings.step;
@@ -134,7 +139,7 @@ impl<'a> Shared<'a> {
         let (times, values) = self.series;
         let slices = &mut room.slices(stretch.output);
         let count = lent::settled_run(times, values, self.pre, self.rollup, &settings, slices)?;
-        Ok(count - times.len() as u64)
+        Ok(count - self.remaining)
     }
 }
 

@@ -3,6 +3,7 @@
 use std::collections::TryReserveError;
 use std::num::NonZero;
 
+use crate::marks::{remaining, remaining_count};
 use crate::settings::points;
 use crate::shared::Shared;
 use crate::{Refusal, Rollup, Settings, SettledSettings, Step, lent};
@@ -23,9 +24,12 @@ pub struct Workspace {
 pub struct Figures<'a> {
     /// One figure for each output time.
     pub values: &'a [f64],
-    /// The values after the preparing step.
+    /// The times of the readings that figures are made of: all for a rollup that sees marks, for the
+    /// others those that are no marks.
+    pub timestamps: &'a [i64],
+    /// The values of those readings after the preparing step, as many.
     pub prepared: &'a [f64],
-    /// The readings of the series, and for each output time those that were scanned.
+    /// How many those readings are, and for each output time how many were scanned.
     pub count: u64,
 }
 
@@ -38,12 +42,11 @@ impl Workspace {
     /// The bytes that it owns.
     pub fn bytes(&self) -> usize {
         let rooms = self.others.iter().chain([&self.room]);
-        let entries: usize =
-            rooms.map(|room| room.prepared.capacity() + room.work.capacity()).sum();
-        (self.output.capacity() + entries) * size_of::<f64>()
+        self.output.capacity() * size_of::<f64>() + rooms.map(Room::bytes).sum::<usize>()
     }
 
-    /// The values after a preparing step.
+    /// The values after a preparing step. A [`STALE`](crate::STALE) among the values is refused, as any
+    /// NaN: a run, which takes them, has the prepared values of the readings that remain.
     pub fn prepare(
         &mut self,
         timestamps: &[i64],
@@ -59,7 +62,7 @@ impl Workspace {
         answer.map(|()| &self.room.prepared[..timestamps.len()])
     }
 
-    /// One figure for each output time of the settings' grid.
+    /// One figure for each output time of the settings' grid. Values may be [`STALE`](crate::STALE).
     pub fn run(
         &mut self,
         timestamps: &[i64],
@@ -69,7 +72,7 @@ impl Workspace {
         settings: &Settings,
     ) -> Result<Figures<'_>, Refusal> {
         let points = || points(settings.start, settings.end, settings.step);
-        self.lend(timestamps.len(), points, |slices| {
+        self.lend(values, (pre, rollup), points, |slices| {
             lent::run(timestamps, values, pre, rollup, settings, slices)
         })
     }
@@ -84,7 +87,7 @@ impl Workspace {
         settings: &SettledSettings,
     ) -> Result<Figures<'_>, Refusal> {
         let points = || points(settings.start, settings.end, settings.step);
-        self.lend(timestamps.len(), points, |slices| {
+        self.lend(values, (pre, rollup), points, |slices| {
             lent::settled_run(timestamps, values, pre, rollup, settings, slices)
         })
     }
@@ -93,8 +96,8 @@ impl Workspace {
     /// among them: the grid is cut into stretches of about half a second of work.
     ///
     /// `done` is told, from any of the threads, how many more output times are worked out; over an
-    /// accepted run they add up to its grid. Each thread needs a prepared and a work slice, 24 bytes
-    /// a reading. One that cannot start, or cannot have them, leaves its part to the others.
+    /// accepted run they add up to its grid. Each thread needs a prepared, a remaining and a work slice,
+    /// 32 bytes a reading. One that cannot start, or cannot have them, leaves its part to the others.
     ///
     /// ```
     /// # use std::num::NonZero;
@@ -125,12 +128,13 @@ impl Workspace {
         done: &(dyn Fn(usize) + Sync),
     ) -> Result<Figures<'_>, Refusal> {
         // Lent no slices, a run is refused for these only if its series and settings are accepted.
-        let nothing = &mut lent::Slices { output: &mut [], prepared: &mut [], work: &mut [] };
+        let (output, prepared) = (&mut [], &mut []);
+        let nothing = &mut lent::Slices { output, prepared, remaining: &mut [], work: &mut [] };
         match lent::run(timestamps, values, pre, rollup, settings, nothing) {
-            Ok(_) | Err(Refusal::Output) => {}
+            Ok(_) | Err(Refusal::Output) => step_of_marks(pre, rollup)?,
             Err(refusal) => return Err(refusal),
         }
-        let settled = lent::settle(timestamps, settings)?;
+        let settled = lent::settle(&remaining(timestamps, values, rollup), settings)?;
         let (readings, points) = (timestamps.len(), settled.points);
         let threads = jobs.get().min(points);
         grow(&mut self.output, points);
@@ -140,32 +144,43 @@ impl Workspace {
         let shared =
             Shared::new((timestamps, values), pre, rollup, settings, output, threads, done);
         let count = shared.count(&mut self.room, &mut self.others)?;
-        Ok(self.figures(readings, points, count))
+        Ok(self.figures(remaining_count(values, rollup), points, count))
     }
 
     /// What a call gives on the slices as they are, or on longer ones if it refuses these as too
     /// short.
     fn lend(
         &mut self,
-        readings: usize,
+        values: &[f64],
+        (pre, rollup): (Step, Rollup),
         points: impl Fn() -> usize,
         call: impl Fn(&mut lent::Slices) -> Result<u64, Refusal>,
     ) -> Result<Figures<'_>, Refusal> {
         let count = match call(&mut self.room.slices(&mut self.output)) {
             Err(Refusal::Output | Refusal::Prepared | Refusal::Work) => {
+                step_of_marks(pre, rollup)?;
                 grow(&mut self.output, points());
-                self.room.grow(readings);
+                self.room.grow(values.len());
                 call(&mut self.room.slices(&mut self.output))?
             }
             answer => answer?,
         };
-        Ok(self.figures(readings, points(), count))
+        Ok(self.figures(remaining_count(values, rollup), points(), count))
     }
 
     /// The first entries of the slices.
-    fn figures(&self, readings: usize, points: usize, count: u64) -> Figures<'_> {
-        let (values, prepared) = (&self.output[..points], &self.room.prepared[..readings]);
-        Figures { values, prepared, count }
+    fn figures(&self, remaining: usize, points: usize, count: u64) -> Figures<'_> {
+        let (values, room) = (&self.output[..points], &self.room);
+        let (timestamps, prepared) = (&room.remaining[..remaining], &room.prepared[..remaining]);
+        Figures { values, timestamps, prepared, count }
+    }
+}
+
+/// The refusal that comes after those of slices that are too short, met before they grow.
+fn step_of_marks(pre: Step, rollup: Rollup) -> Result<(), Refusal> {
+    match rollup.sees_marks() && pre != Step::None {
+        true => Err(Refusal::StepOfMarks),
+        false => Ok(()),
     }
 }
 
@@ -173,24 +188,33 @@ impl Workspace {
 #[derive(Clone, Debug, Default)]
 pub(crate) struct Room {
     prepared: Vec<f64>,
+    remaining: Vec<i64>,
     work: Vec<f64>,
 }
 
 impl Room {
+    fn bytes(&self) -> usize {
+        let entries = self.prepared.capacity() + self.work.capacity();
+        entries * size_of::<f64>() + self.remaining.capacity() * size_of::<i64>()
+    }
+
     /// With an output, all that a run is lent.
     pub(crate) fn slices<'a>(&'a mut self, output: &'a mut [f64]) -> lent::Slices<'a> {
-        lent::Slices { output, prepared: &mut self.prepared, work: &mut self.work }
+        let Room { prepared, remaining, work } = self;
+        lent::Slices { output, prepared, remaining, work }
     }
 
     /// Grows to what a series of so many readings needs.
     fn grow(&mut self, readings: usize) {
         grow(&mut self.prepared, readings);
+        grow(&mut self.remaining, readings);
         grow(&mut self.work, 2 * readings);
     }
 
     /// Grows, if there is the memory.
     pub(crate) fn try_grow(&mut self, readings: usize) -> Result<(), TryReserveError> {
         self.prepared.try_reserve(readings.saturating_sub(self.prepared.len()))?;
+        self.remaining.try_reserve(readings.saturating_sub(self.remaining.len()))?;
         self.work.try_reserve((2 * readings).saturating_sub(self.work.len()))?;
         self.grow(readings);
         Ok(())
@@ -198,8 +222,8 @@ impl Room {
 }
 
 /// Grows a vector that has fewer entries.
-fn grow(vector: &mut Vec<f64>, length: usize) {
+fn grow<T: Clone + Default>(vector: &mut Vec<T>, length: usize) {
     if vector.len() < length {
-        vector.resize(length, 0.0);
+        vector.resize(length, T::default());
     }
 }

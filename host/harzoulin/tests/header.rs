@@ -4,7 +4,7 @@
 use std::collections::BTreeSet;
 use std::fs;
 
-use harzoulin::{ROLLUPS, Refusal, Step};
+use harzoulin::{ROLLUPS, Refusal, STALE, Step};
 
 const HEADER: &str = include_str!("../../../include/harzoulin.h");
 const EXPORTED: &str = include_str!("../src/exported.rs");
@@ -62,10 +62,16 @@ fn refusals() {
         Some((format!("refused_{}", in_words(&name)), number))
     };
     let refusals: Vec<(String, u64)> = (0..1000).filter_map(named).collect();
-    assert_eq!(refusals.len(), 19);
+    assert_eq!(refusals.len(), 20);
     let constants = constants("harzoulin_refusal", "HARZOULIN_");
     assert_eq!(constants[0], ("accepted".into(), 0));
     assert_eq!(constants[1..], refusals);
+}
+
+#[test]
+fn the_mark() {
+    let line = format!("#define HARZOULIN_STALE UINT64_C({:#X})", STALE.to_bits());
+    assert!(HEADER.lines().any(|found| found == line.replace("0X", "0x")), "{line}");
 }
 
 /// The functions of a text by their names, each with its parameters as C declares them.
@@ -100,7 +106,7 @@ fn of_rust(parameter: &str) -> String {
             format!("uint64_t *{name}")
         }
         "*mut Work" => format!("double *{name}"),
-        "*mut MergedTimes" | "&mut i64" => format!("int64_t *{name}"),
+        "*mut Remaining" | "*mut MergedTimes" | "&mut i64" => format!("int64_t *{name}"),
         "usize" => format!("size_t {name}"),
         "bool" => format!("bool {name}"),
         "f64" => format!("double {name}"),

@@ -96,22 +96,34 @@ fn of_settle_and_of_a_settled_run() {
 #[test]
 fn of_slices() {
     let rows = [
-        ([10, 4, 8], Err(Refusal::Output)),
-        ([11, 3, 8], Err(Refusal::Prepared)),
-        ([11, 4, 7], Err(Refusal::Work)),
-        ([11, 4, 8], Ok(5)),
+        ([10, 4, 4, 8], Err(Refusal::Output)),
+        ([11, 3, 4, 8], Err(Refusal::Prepared)),
+        ([11, 4, 3, 8], Err(Refusal::Prepared)),
+        ([11, 4, 4, 7], Err(Refusal::Work)),
+        ([11, 4, 4, 8], Ok(5)),
     ];
-    for (lengths, answer) in rows {
-        let [mut output, mut prepared, mut work] = lengths.map(|length| vec![7.0; length]);
-        let mut slices = Slices { output: &mut output, prepared: &mut prepared, work: &mut work };
+    for ([output, prepared, remaining, work], answer) in rows {
+        let [mut output, mut prepared, mut work] =
+            [output, prepared, work].map(|length| vec![7.0; length]);
+        let mut remaining = vec![7; remaining];
+        let mut slices = Slices {
+            output: &mut output,
+            prepared: &mut prepared,
+            remaining: &mut remaining,
+            work: &mut work,
+        };
         let run = lent::run(&TIMES, &VALUES, Step::None, Rollup::Avg, &SETTINGS, &mut slices);
         assert_eq!(run, answer);
         let untouched = [&output, &prepared, &work].map(|slice| slice.iter().all(|v| *v == 7.0));
         assert_eq!(untouched, [answer.is_err(); 3]);
+        assert_eq!(remaining.iter().all(|time| *time == 7), answer.is_err());
     }
     let refused = lent::prepare(&TIMES, &VALUES, Step::Delta, &mut [0.0; 3]);
     assert_eq!(refused, Err(Refusal::Prepared));
     expect(Refusal::Work, 14, 0, "refusal 14: the work slice is under twice the series");
+    let text = "refusal 13: the prepared slice, or in a run that for the remaining times, is shorter \
+                than the series";
+    expect(Refusal::Prepared, 13, 0, text);
 }
 
 /// The longest grid that is accepted, and no reading at all.

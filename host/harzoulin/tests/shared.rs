@@ -12,12 +12,12 @@ use harzoulin::{Figures, MOST, ROLLUPS, Refusal, Rollup, Settings, Step, Workspa
 
 const JOBS: [usize; 4] = [1, 2, 3, 7];
 
-/// All of an answer, to the bit: the figures, the prepared values and the count.
-type Bits = Result<(Vec<u64>, Vec<u64>, u64), Refusal>;
+/// All of an answer, to the bit: the figures, the remaining times, the prepared values and the count.
+type Bits = Result<(Vec<u64>, Vec<i64>, Vec<u64>, u64), Refusal>;
 
 fn bits(figures: Result<Figures, Refusal>) -> Bits {
     let list = |numbers: &[f64]| numbers.iter().map(|number| number.to_bits()).collect();
-    figures.map(|run| (list(run.values), list(run.prepared), run.count))
+    figures.map(|run| (list(run.values), run.timestamps.to_vec(), list(run.prepared), run.count))
 }
 
 /// What a run is handed.
@@ -73,6 +73,11 @@ fn call(readings: i64) -> Call {
     Call { times, values, pre: Step::None, rollup: Rollup::Median, settings }
 }
 
+/// The steps that a rollup takes.
+fn steps(rollup: Rollup) -> impl Iterator<Item = Step> {
+    Step::ALL.into_iter().filter(move |pre| *pre == Step::None || !rollup.sees_marks())
+}
+
 #[test]
 fn every_rollup_and_step() {
     let mut workspace = Workspace::new();
@@ -83,7 +88,7 @@ fn every_rollup_and_step() {
             1 => format!("{}(0.3)", about.name).parse().unwrap(),
             _ => format!("{}(0.3, 0.6)", about.name).parse().unwrap(),
         };
-        for pre in Step::ALL {
+        for pre in steps(call.rollup) {
             call.pre = pre;
             call.settings.samples_scanned_per_call = number as u64 % 3;
             assert!(call.whole(&mut workspace).is_ok(), "{about}");
@@ -158,6 +163,7 @@ fn refusals() {
         (9, with(&|call| call.settings.samples_scanned_per_call = 65_536)),
         (10, with(&|call| call.settings.max_points_per_series = 1)),
         (11, with(&|call| (call.settings.end, call.settings.step) = (MOST as i64, 1))),
+        (19, with(&|call| (call.rollup, call.pre) = (Rollup::Default, Step::Delta))),
     ];
     for (number, call) in calls {
         let mut workspace = Workspace::new();
@@ -168,14 +174,14 @@ fn refusals() {
     }
 }
 
-/// Each thread has its own prepared and work slice, and they are kept for the next run.
+/// Each thread has its own prepared, remaining and work slice, and they are kept for the next run.
 #[test]
 fn memory() {
     let call = call(1000);
     let mut workspace = Workspace::new();
     let (answer, points) = call.shared(&mut workspace, 3);
     let bytes = workspace.bytes();
-    assert_eq!(bytes, 8 * (points + 3 * 3 * 1000));
+    assert_eq!(bytes, 8 * (points + 3 * 4 * 1000));
     assert_eq!(call.shared(&mut workspace, 2), (answer, points));
     assert_eq!(workspace.bytes(), bytes);
 }
@@ -216,7 +222,7 @@ fn threads_that_cannot_start() {
     call(300).same_for_every_number_of_jobs(&mut Workspace::new());
 }
 
-/// In a process that has memory for some of the jobs: each needs 48 megabytes.
+/// In a process that has memory for some of the jobs: each needs 64 megabytes.
 #[test]
 fn threads_that_cannot_have_their_memory() {
     if env::var_os("AGAIN").is_none() {

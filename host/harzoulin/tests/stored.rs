@@ -2,7 +2,7 @@
 //! every eleventh of the first 450 cases. Its first line says what a case holds. The values of a step
 //! and the answers of a rollup that the original does not have are the model's of compare/.
 
-use harzoulin::{ROLLUPS, Rollup, Settings, Settled, Step, Workspace, settle};
+use harzoulin::{ROLLUPS, Rollup, Settings, Settled, Step, Workspace, is_stale, remaining, settle};
 
 /// The words of a case, taken in order.
 struct Words<'a>(std::str::SplitWhitespace<'a>);
@@ -55,9 +55,69 @@ fn rollup(number: usize, first: f64, second: f64) -> Rollup {
     text.parse().unwrap()
 }
 
+/// What is stored of the runs of one kind of rollups: what was settled and the count, or, without output
+/// times, the number and the index of the refusal.
+enum Kind {
+    Accepted(Settled, u64),
+    Refused(u64, usize),
+}
+
+impl Words<'_> {
+    fn kind(&mut self) -> Kind {
+        let [window, reach, count, points] = [(); 4].map(|()| self.word());
+        match points as usize {
+            0 => Kind::Refused(window, reach as usize),
+            points => {
+                let (window, reach) = (window as i64, reach as i64);
+                Kind::Accepted(Settled { window, reach, points }, count)
+            }
+        }
+    }
+}
+
+/// A stored case.
+struct Case {
+    times: Vec<i64>,
+    values: Vec<f64>,
+    pre: Step,
+    settings: Settings,
+}
+
+impl Case {
+    /// The runs of a rollup have the stored answers, and the prepared values are those of the readings
+    /// that remain.
+    fn accepted(&self, rollup: Rollup, settled: Settled, count: u64, answers: &[f64]) {
+        let Case { times, values, pre, settings } = self;
+        let (mut workspace, mut other) = (Workspace::new(), Workspace::new());
+        let left = remaining(times, values, rollup);
+        assert_eq!(settle(&left, settings), Ok(settled));
+        let run = workspace.run(times, values, *pre, rollup, settings).unwrap();
+        let settings = settings.settled(settled);
+        let again = other.settled_run(times, values, *pre, rollup, &settings).unwrap();
+        for run in [run, again] {
+            assert_eq!((bits(run.values), run.count), (bits(answers), count), "{rollup}");
+            assert_eq!(run.timestamps, &left[..]);
+        }
+        let (prepared, mut bare) = (bits(run.prepared), values.clone());
+        if !rollup.sees_marks() {
+            bare.retain(|value| !is_stale(*value));
+            assert_eq!(bits(workspace.prepare(&left, &bare, *pre).unwrap()), prepared);
+        } else {
+            assert_eq!(bits(&bare), prepared);
+        }
+    }
+
+    fn refused(&self, rollup: Rollup, number: u64, index: usize) {
+        let Case { times, values, pre, settings } = self;
+        let mut workspace = Workspace::new();
+        let refusal = workspace.run(times, values, *pre, rollup, settings).unwrap_err();
+        assert_eq!((u64::from(refusal.number()), refusal.index()), (number, index), "{rollup}");
+    }
+}
+
 #[test]
 fn runs_have_the_bits_of_the_rust() {
-    let mut workspace = Workspace::new();
+    let (mut marks, mut refused) = (0, 0);
     for line in include_str!("run.txt").lines().skip(1) {
         let mut words = Words(line.split_whitespace());
         let pre = Step::ALL[words.word() as usize];
@@ -65,22 +125,23 @@ fn runs_have_the_bits_of_the_rust() {
         let readings = words.word() as usize;
         let times: Vec<i64> = (0..readings).map(|_| words.int()).collect();
         let values = words.floats(readings);
-        let settings = words.settings();
-        let (window, reach, count) = (words.int(), words.int(), words.word());
+        marks += values.iter().filter(|value| is_stale(**value)).count();
+        let case = Case { times, values, pre, settings: words.settings() };
+        let kinds = [words.kind(), words.kind()];
         let _departures = words.word();
-        let settled = Settled { window, reach, points: words.word() as usize };
-        assert_eq!(settle(&times, &settings), Ok(settled));
         for number in 0..ROLLUPS.len() {
             let rollup = rollup(number, first, second);
-            let answers = bits(&words.floats(settled.points));
-            let run = workspace.run(&times, &values, pre, rollup, &settings).unwrap();
-            assert_eq!((bits(run.values), run.count), (answers.clone(), count), "{rollup}");
-            let settings = settings.settled(settled);
-            let run = workspace.settled_run(&times, &values, pre, rollup, &settings).unwrap();
-            assert_eq!((bits(run.values), run.count), (answers, count), "{rollup}");
-            let prepared = bits(run.prepared);
-            assert_eq!(bits(workspace.prepare(&times, &values, pre).unwrap()), prepared);
+            match kinds[usize::from(rollup.sees_marks())] {
+                Kind::Accepted(settled, count) => {
+                    case.accepted(rollup, settled, count, &words.floats(settled.points));
+                }
+                Kind::Refused(number, index) => {
+                    refused += 1;
+                    case.refused(rollup, number, index);
+                }
+            }
         }
         assert!(words.0.next().is_none());
     }
+    assert!(marks > 0 && refused > 0, "{marks} marks, {refused} refused");
 }

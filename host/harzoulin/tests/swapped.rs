@@ -11,10 +11,11 @@ fn compiled(folder: &Path, call: &str) -> Result<(), String> {
     let source = format!(
         "#![allow(unused)]\n#[path = {exported:?}]\nmod exported;\nuse exported::*;\n\
          pub unsafe fn call(times: &[i64], values: &[f64], output: &mut [f64], prepared: &mut [f64],\n\
-         work: &mut [f64], indexes: &mut [u64], more: &[i64], others: &[f64], merged: &mut [i64],\n\
-         joined: &mut [f64]) -> u64 {{\n\
+         remaining: &mut [i64], work: &mut [f64], indexes: &mut [u64], more: &[i64], others: &[f64],\n\
+         merged: &mut [i64], joined: &mut [f64]) -> u64 {{\n\
          let (times, values) = (Times::of(times), Values::of(values));\n\
-         let (output, prepared, work) = (Output::of(output), Prepared::of(prepared), Work::of(work));\n\
+         let (output, prepared) = (Output::of(output), Prepared::of(prepared));\n\
+         let (remaining, work) = (Remaining::of(remaining), Work::of(work));\n\
          let indexes = Indexes::of(indexes);\n\
          let (more, others) = (SecondTimes::of(more), SecondValues::of(others));\n\
          let (merged, joined) = (MergedTimes::of(merged), MergedValues::of(joined));\n\
@@ -58,14 +59,14 @@ fn of_prepare() {
 
 #[test]
 fn of_run() {
-    let slices = ["times", "values", "output", "prepared", "work"];
+    let slices = ["times", "values", "output", "prepared", "remaining", "work"];
     let numbers = "0, 0, 0.0, 0.0, 0, 0, 1, 0, false, false, 0, 0, 0, 0";
     swaps_are_refused("harzoulin_run", &slices, 2, numbers, "count, index");
 }
 
 #[test]
 fn of_settled_run() {
-    let slices = ["times", "values", "output", "prepared", "work"];
+    let slices = ["times", "values", "output", "prepared", "remaining", "work"];
     let numbers = "0, 0, 0.0, 0.0, 0, 0, 1, 1, 1, 0";
     swaps_are_refused("harzoulin_settled_run", &slices, 2, numbers, "count, index");
 }

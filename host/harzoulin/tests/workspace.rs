@@ -16,7 +16,7 @@ fn shorter_series_need_no_memory() {
     let mut places = |readings| {
         let (times, values, settings) = series(readings);
         let run = workspace.run(&times, &values, Step::Resets, Rollup::Median, &settings).unwrap();
-        (run.values.as_ptr(), run.prepared.as_ptr())
+        (run.values.as_ptr(), run.timestamps.as_ptr(), run.prepared.as_ptr())
     };
     let longest = places(1000);
     for readings in [1, 999, 0, 500, 1000] {
@@ -36,7 +36,7 @@ fn a_used_workspace_answers_as_a_new_one() {
                 let run = run.unwrap();
                 let bits =
                     |numbers: &[f64]| numbers.iter().map(|n| n.to_bits()).collect::<Vec<_>>();
-                (bits(run.values), bits(run.prepared), run.count)
+                (bits(run.values), run.timestamps.to_vec(), bits(run.prepared), run.count)
             });
             assert_eq!(used, new);
         }
@@ -99,13 +99,14 @@ fn a_refusal_needs_no_memory() {
     assert_eq!(refused(&times, &values, Settings { end: MOST as i64, step: 1, ..good }), 11);
 }
 
-/// An accepted run needs the output, the prepared values and twice as much to work in.
+/// An accepted run needs the output, the prepared values, the remaining times and twice as much to work
+/// in.
 #[test]
 fn memory_of_a_run() {
     let mut workspace = Workspace::new();
     let (times, values, settings) = series(1000);
     workspace.run(&times, &values, Step::None, Rollup::Avg, &settings).unwrap();
-    assert_eq!(workspace.bytes(), 8 * (1000 + 3 * 1000));
+    assert_eq!(workspace.bytes(), 8 * (1000 + 4 * 1000));
 }
 
 /// A workspace may be moved to another thread.
