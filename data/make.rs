@@ -30,8 +30,12 @@ const DAY: i64 = 24 * HOUR;
 /// Monday, 2 March 2026.
 const MONDAY: i64 = 1_772_409_600_000;
 
+/// The hours at which the drive was unplugged, and those at which it was plugged in again.
+const UNPLUGGED: [(i64, i64); 3] = [(249, 258), (756, 787), (1204, 1219)];
+
 /// Metres of tape that a drive wound, a reading an hour for ten weeks. The counter begins again at
-/// each firmware load, and runs little at night and on Sundays.
+/// each firmware load, and runs little at night and on Sundays. An unplugged drive winds nothing: where
+/// its first reading is missing stands a staleness mark, and then nothing until it is back.
 pub fn drive() -> String {
     let mut rng = Rng(7);
     let mut text =
@@ -40,11 +44,20 @@ pub fn drive() -> String {
     let mut metres = 48_210.0;
     for hour in 0..10 * 7 * 24 {
         let busy = (6..22).contains(&(hour % 24)) && hour / 24 % 7 != 6;
-        metres += (rng.unit() * if busy { 900.0 } else { 40.0 }).floor();
+        let wound = (rng.unit() * if busy { 900.0 } else { 40.0 }).floor();
+        let away = UNPLUGGED.iter().find(|(gone, back)| (*gone..*back).contains(&hour));
+        if away.is_none() {
+            metres += wound;
+        }
         if [411, 912, 1350].contains(&hour) {
             metres = 0.0;
         }
-        writeln!(text, "{},{metres}", MONDAY + hour * HOUR).unwrap();
+        let time = MONDAY + hour * HOUR;
+        match away {
+            None => writeln!(text, "{time},{metres}").unwrap(),
+            Some((gone, _)) if *gone == hour => writeln!(text, "{time},stale").unwrap(),
+            Some(_) => {}
+        }
     }
     text
 }

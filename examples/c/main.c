@@ -1,8 +1,9 @@
 /* Two-minute figures of a probe, by the rollup core, when it went over a limit, its log merged with
- * another, and what a refusal looks like.
+ * another, when it went away, and what a refusal looks like.
  * Build and run: make -C examples/c run */
 #include <inttypes.h>
 #include <stdio.h>
+#include <string.h>
 
 #include "harzoulin.h"
 
@@ -15,14 +16,45 @@ static const double values[READINGS] = {16.5, 16.75, 17.0, 18.5, 18.0};
 static const int64_t server_timestamps[SERVER] = {180000, 240000, 300000};
 static const double server_values[SERVER] = {17.0, 17.5, 18.5};
 
-/* Runs a rollup over two-minute windows that end at minutes 2, 4 and 6. */
+/* Runs a rollup of some values over two-minute windows that end at minutes 2, 4 and 6. */
+static uint64_t run_on(const uint64_t *patterns, uint32_t rollup, double first, int64_t step,
+                       uint64_t *figures, uint64_t *count, uint64_t *index) {
+    uint64_t prepared[READINGS];
+    int64_t remaining[READINGS];
+    double work[2 * READINGS];
+    return harzoulin_run(timestamps, READINGS, patterns, READINGS, HARZOULIN_STEP_NONE, rollup,
+                         first, 0.0, 120000, 360000, step, 0, false, false, 0, 0, 0, 0, figures,
+                         POINTS, prepared, READINGS, remaining, READINGS, work, 2 * READINGS, count,
+                         index);
+}
+
+/* The same of the probe's own values. */
 static uint64_t run(uint32_t rollup, double first, int64_t step, double *figures, uint64_t *count,
                     uint64_t *index) {
-    double prepared[READINGS], work[2 * READINGS];
-    return harzoulin_run(timestamps, READINGS, (const uint64_t *)values, READINGS,
-                         HARZOULIN_STEP_NONE, rollup, first, 0.0, 120000, 360000, step, 0, false,
-                         false, 0, 0, 0, 0, (uint64_t *)figures, POINTS, (uint64_t *)prepared,
-                         READINGS, work, 2 * READINGS, count, index);
+    return run_on((const uint64_t *)values, rollup, first, step, (uint64_t *)figures, count, index);
+}
+
+/* Tells at which of the minutes the probe was away, had it been unplugged after minute 3. A mark is a
+ * NaN, which equals nothing: it is kept as bits and told by them. */
+static uint64_t went_away(void) {
+    uint64_t patterns[READINGS], last[POINTS], readings, count, index;
+    memcpy(patterns, values, sizeof patterns);
+    patterns[READINGS - 2] = HARZOULIN_STALE;
+    patterns[READINGS - 1] = HARZOULIN_STALE;
+    uint64_t refused =
+        run_on(patterns, HARZOULIN_ROLLUP_DEFAULT, 0.0, 120000, last, &readings, &index);
+    if (refused) {
+        return refused;
+    }
+    for (int i = 0; i < POINTS; i++) {
+        if (last[i] == HARZOULIN_STALE) {
+            printf("away at minute %d\n", 2 * i + 2);
+        }
+    }
+    /* For all other rollups the marks are taken out: three readings remain, each in one window. */
+    refused = run_on(patterns, HARZOULIN_ROLLUP_AVG, 0.0, 120000, last, &count, &index);
+    printf("%" PRIu64 " readings scanned with the marks, %" PRIu64 " without\n", readings, count);
+    return refused;
 }
 
 /* Tells when the probe went over 17 degrees or back under, and its reading nearest to minute 4. */
@@ -77,7 +109,7 @@ int main(void) {
         printf("%6d  %7.3f  %6.3f\n", 2 * i + 2, averages[i], medians[i]);
     }
     printf("%" PRIu64 " readings scanned\n", count);
-    if (find() || merge()) {
+    if (find() || merge() || went_away()) {
         return 1;
     }
     uint64_t refused = run(HARZOULIN_ROLLUP_AVG, 0.0, 0, averages, &count, &index);

@@ -1,5 +1,6 @@
 // A day's means of a probe, by the rollup core: over the whole grid, and again in two parts on two
-// threads, which give the same; when it went over a limit; and the day from two logs of it.
+// threads, which give the same; when it went over a limit; the day from two logs of it; and a day on
+// which it was unplugged.
 // Build and run: make -C examples/cpp run
 #include <cstdio>
 #include <cstring>
@@ -22,9 +23,11 @@ struct Series {
 struct Lent {
     Lent(std::size_t readings, std::size_t points)
         : readings(readings), points(points), output(points + 1), prepared(readings + 1),
-          work(2 * readings + 1) {}
+          remaining(readings + 1), work(2 * readings + 1) {}
     std::size_t readings, points;
-    std::vector<double> output, prepared, work;
+    std::vector<double> output, prepared;
+    std::vector<std::int64_t> remaining;
+    std::vector<double> work;
     std::uint64_t count = 0, index = 0;
 };
 
@@ -51,7 +54,8 @@ std::uint64_t means(const Series &series, std::int64_t start, std::int64_t end,
         series.times.data(), series.times.size(), patterns(series.values.data()),
         series.values.size(), HARZOULIN_STEP_NONE, HARZOULIN_ROLLUP_AVG, 0.0, 0.0, start, end, hour,
         window, reach, 0, patterns(lent.output.data()), lent.points, patterns(lent.prepared.data()),
-        lent.readings, lent.work.data(), 2 * lent.readings, &lent.count, &lent.index);
+        lent.readings, lent.remaining.data(), lent.readings, lent.work.data(), 2 * lent.readings,
+        &lent.count, &lent.index);
 }
 
 // Whether the first entries of a slice are those of another, from one of them on, to the bit.
@@ -67,7 +71,8 @@ bool accepts_no_readings() {
     std::uint64_t answer = harzoulin_run(
         &no_time, 0, patterns(&no_value), 0, HARZOULIN_STEP_DELTA, HARZOULIN_ROLLUP_ABSENT, 0.0,
         0.0, 0, 0, hour, 0, false, false, 0, 0, 0, 0, patterns(lent.output.data()), 1,
-        patterns(lent.prepared.data()), 0, lent.work.data(), 0, &lent.count, &lent.index);
+        patterns(lent.prepared.data()), 0, lent.remaining.data(), 0, lent.work.data(), 0,
+        &lent.count, &lent.index);
     std::uint64_t found = 1, nearest = 1;
     answer += harzoulin_nearest(&no_time, 0, hour, &found, &nearest, &lent.index);
     return answer == HARZOULIN_ACCEPTED && lent.output[0] == 1.0 && lent.count == 0 && found == 0;
@@ -119,6 +124,35 @@ bool merges_logs(const Series &series) {
            ask() == HARZOULIN_REFUSED_CONFLICT;
 }
 
+// Whether it is told that a probe was unplugged at minute 90. A mark is a NaN, which equals nothing: values
+// with marks are kept as bits, and so is an answer that may be one.
+bool tells_a_mark(const Series &series) {
+    const std::size_t readings = 91;
+    std::vector<std::uint64_t> values(readings);
+    std::memcpy(values.data(), series.values.data(), readings * sizeof(double));
+    values[90] = HARZOULIN_STALE;
+    Lent lent(readings, 0);
+    auto ask = [&](std::uint32_t step, std::uint32_t rollup, std::uint64_t *figure) {
+        return harzoulin_run(series.times.data(), readings, values.data(), readings, step, rollup,
+                             0.0, 0.0, 2 * hour, 2 * hour, hour, 0, false, false, 0, 0, 0, 0,
+                             figure, 1, patterns(lent.prepared.data()), readings,
+                             lent.remaining.data(), readings, lent.work.data(), 2 * readings,
+                             &lent.count, &lent.index);
+    };
+    std::uint64_t last = 0;
+    double marks = 0.0, mean = 0.0;
+    if (ask(HARZOULIN_STEP_NONE, HARZOULIN_ROLLUP_DEFAULT, &last) != HARZOULIN_ACCEPTED ||
+        ask(HARZOULIN_STEP_NONE, HARZOULIN_ROLLUP_STALE_SAMPLES, patterns(&marks)) ||
+        ask(HARZOULIN_STEP_NONE, HARZOULIN_ROLLUP_AVG, patterns(&mean))) {
+        return false;
+    }
+    std::printf("%.0f mark in the second hour, and %s at its end\n", marks,
+                last == HARZOULIN_STALE ? "away" : "there");
+    return last == HARZOULIN_STALE && marks == 1.0 && mean > 16.0 &&
+           ask(HARZOULIN_STEP_DELTA, HARZOULIN_ROLLUP_DEFAULT, &last) ==
+               HARZOULIN_REFUSED_STEP_OF_MARKS;
+}
+
 } // namespace
 
 int main() {
@@ -143,11 +177,12 @@ int main() {
     std::printf("%zu hourly means, the first %.4f, the last %.4f\n", whole.points, whole.output[0],
                 whole.output[whole.points - 1]);
     bool crossed = finds_crossings(series), merged = merges_logs(series);
+    bool told = tells_a_mark(series);
     bool joined = same(whole.output, 0, morning) && same(whole.output, 12, evening) &&
                   morning.count + evening.count == whole.count + readings;
     series.times[7] = series.times[6] - 1;
     refused = means(series, hour, 12 * hour, window, reach, morning);
     bool ordered = refused == HARZOULIN_REFUSED_ORDER && morning.index == 7;
     std::printf("in two parts: %s\n", joined ? "the same" : "not the same");
-    return crossed && merged && joined && ordered && accepts_no_readings() ? 0 : 1;
+    return crossed && merged && told && joined && ordered && accepts_no_readings() ? 0 : 1;
 }

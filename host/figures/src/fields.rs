@@ -2,6 +2,8 @@
 
 use std::borrow::Cow;
 
+use harzoulin::STALE;
+
 /// The fields of a line. Blanks around a field are no part of it; what stands in quotes is kept as it
 /// is, and two quotes in it are one.
 pub fn split(line: &str) -> Result<Vec<Cow<'_, str>>, String> {
@@ -39,6 +41,21 @@ fn inside_quotes(text: &str) -> Result<(String, &str), String> {
         let Some(next) = after.strip_prefix('"') else { return Ok((field, after)) };
         field.push('"');
         rest = next;
+    }
+}
+
+/// The word for the staleness mark as a value.
+pub const MARK: &str = "stale";
+
+/// The value of a field, or what was expected.
+pub fn value(text: &str) -> Result<f64, &'static str> {
+    match text.parse() {
+        Ok(number) => Ok(number),
+        Err(_) if text == MARK => Ok(STALE),
+        Err(_) if text.eq_ignore_ascii_case(MARK) => {
+            Err("expected a number as value, or stale in lower case")
+        }
+        Err(_) => Err("expected a number as value"),
     }
 }
 

@@ -96,6 +96,7 @@ fn figures(options: &Options) -> Result<(), Failure> {
     write::figures(&answers, options, &mut files)?;
     files.put()?;
     notes.iter().for_each(say);
+    answer::taken_out(&answers, &options.rollups).iter().for_each(say);
     if options.stats {
         stats(&answers, reading, begin.elapsed());
     }
@@ -112,14 +113,15 @@ fn explain(options: &Options, at: i64) -> Result<(), Failure> {
 
 /// Sizes and times on standard error; with several jobs, times are summed over them.
 fn stats(answers: &[Answer], reading: Duration, writing: Duration) {
-    let readings: usize = answers.iter().map(|answer| answer.readings).sum();
+    let readings = answers.iter().map(|answer| answer.readings).sum();
+    let readings = answer::sum(readings, answers.iter().map(|answer| answer.marks).sum());
     let figures: usize = answers.iter().flat_map(|a| &a.figures).map(Vec::len).sum();
     let count: u64 = answers.iter().map(|answer| answer.count).sum();
     let jobs = answers.iter().map(|answer| answer.jobs).max().unwrap_or(1);
     let core: Duration = answers.iter().map(|answer| answer.core).sum();
     let [reading, core, writing] = [reading, core, writing].map(|time| time.as_secs_f64());
     put(&format!(
-        "{} series, {readings} readings, {figures} figures, {count} scanned\n\
+        "{} series, {readings}, {figures} figures, {count} scanned\n\
          reading {reading:.3} s, core {core:.3} s, writing {writing:.3} s, up to {jobs} jobs for a \
          series\n",
         answers.len()

@@ -1,17 +1,17 @@
 //! Readings from CSV: a time and a value a line, and perhaps a name. A header, blank lines and
 //! comments from `#` on are let through. A header may give the columns in any order; without one
-//! they are time, value or name, time, value.
+//! they are time, value or name, time, value. The value `stale` is a staleness mark.
 
 use std::borrow::Cow;
 use std::collections::HashMap;
 use std::fs::File;
 use std::io::{self, BufRead, BufReader, Read};
 
-use harzoulin::{MOST, Refusal};
+use harzoulin::{MOST, Refusal, is_stale};
 
 use crate::columns::{Chosen, Columns};
 use crate::failure::Failure;
-use crate::fields::split;
+use crate::fields::{split, value};
 use crate::plain;
 use crate::progress::Progress;
 use crate::series::Series;
@@ -173,7 +173,7 @@ impl<'a> Reader<'a> {
                     _ => expected,
                 }
             })?;
-        if columns.figures && value.is_nan() {
+        if columns.figures && value.is_nan() && !is_stale(value) {
             self.without += 1;
             return Ok(());
         }
@@ -225,12 +225,11 @@ impl<'a> Reader<'a> {
 
 /// The time with its form and the value of a line, or what was expected.
 fn reading(fields: &[Cow<str>], columns: &Columns) -> Result<(i64, Form, f64), String> {
-    let [time, value] = [columns.time, columns.value].map(|place| fields[place].trim_ascii());
+    let [time, text] = [columns.time, columns.value].map(|place| fields[place].trim_ascii());
     let found = |text: &str| format!("found \"{}\"", excerpt(text));
     let (millis, form) =
         time::parse(time).map_err(|expected| format!("{expected}, {}", found(time)))?;
-    let number =
-        value.parse().map_err(|_| format!("expected a number as value, {}", found(value)))?;
+    let number = value(text).map_err(|expected| format!("{expected}, {}", found(text)))?;
     Ok((millis, form, number))
 }
 
@@ -279,8 +278,10 @@ mod tests {
         "000000000000000000001",
         "",
     ];
-    const VALUES: [&str; 12] =
-        ["1", "20.5", "-0", "0.1", ".5", "5.", "1e5", "NaN", "\"3\"", "4 ", "-", "1,1"];
+    const VALUES: [&str; 14] = [
+        "1", "20.5", "-0", "0.1", ".5", "5.", "1e5", "NaN", "\"3\"", "4 ", "-", "1,1", "stale",
+        "Stale",
+    ];
     const ENDS: [&str; 8] = ["\n", "\n", "\n", "\r\n", " \n", "\n\n", "\n#\n", "\r\r\n"];
 
     /// One of the texts, one time in so many any of them, else one of the first two.

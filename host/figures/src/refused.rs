@@ -1,6 +1,6 @@
 //! What is said of a refusal: the row of the table, and the numbers that met it.
 
-use harzoulin::{Refusal, Settings, merge};
+use harzoulin::{Refusal, Rollup, Settings, Step, is_stale, merge};
 
 use crate::failure::Failure;
 use crate::series::Series;
@@ -16,11 +16,25 @@ pub fn refused(series: &Series, settings: &Settings, refusal: Refusal) -> Failur
     message(series, refusal, refusal.reading(), &of_settings(series, settings, refusal))
 }
 
+/// The message where a run of a rollup after a step is refused.
+pub fn refused_run(
+    series: &Series,
+    settings: &Settings,
+    (pre, rollup): (Step, Rollup),
+    refusal: Refusal,
+) -> Failure {
+    if refusal == Refusal::StepOfMarks {
+        let text = format!("{}: {rollup} after {pre}", refusal.sentence());
+        return message(series, refusal, None, &text);
+    }
+    refused(series, settings, refusal)
+}
+
 /// The message where the crossings of a limit are refused.
 pub fn refused_limit(series: &Series, limit: f64, refusal: Refusal) -> Failure {
     let text = match refusal {
         Refusal::CrossingLimit => format!("{}: {limit}", refusal.sentence()),
-        _ => of_series(series, refusal),
+        _ => of_values(series, "crossings", refusal),
     };
     message(series, refusal, refusal.reading(), &text)
 }
@@ -41,7 +55,7 @@ pub fn refused_time(series: &Series, asked: Stamp, refusal: Refusal) -> Failure 
 pub fn refused_merge(first: &Series, second: &Series, refusal: Refusal) -> Failure {
     let alone = |series: &&Series| merge(&series.times, &series.values, &[], &[]).is_err();
     if let Some(series) = [first, second].into_iter().find(alone) {
-        return message(series, refusal, refusal.reading(), &of_series(series, refusal));
+        return message(series, refusal, refusal.reading(), &of_values(series, "merge", refusal));
     }
     let sentence = refusal.sentence();
     if refusal == Refusal::Conflict
@@ -92,6 +106,16 @@ fn of_series(series: &Series, refusal: Refusal) -> String {
         }
         Refusal::Value(place) => format!("{sentence}: {}", series.values[place]),
         _ => sentence.into(),
+    }
+}
+
+/// The same of a call that takes no staleness marks.
+fn of_values(series: &Series, call: &str, refusal: Refusal) -> String {
+    match refusal {
+        Refusal::Value(place) if is_stale(series.values[place]) => {
+            format!("the value is a staleness mark, which cannot be handed to {call}")
+        }
+        _ => of_series(series, refusal),
     }
 }
 

@@ -3,7 +3,7 @@
 use harzoulin::{ROLLUPS, Rollup, UnknownRollup};
 
 /// Each of these MetricsQL calls `.._over_time`.
-const OVER_TIME: [&str; 22] = [
+const OVER_TIME: [&str; 23] = [
     "absent",
     "avg",
     "count",
@@ -17,6 +17,7 @@ const OVER_TIME: [&str; 22] = [
     "present",
     "quantile",
     "range",
+    "stale_samples",
     "stddev",
     "stdvar",
     "sum",
@@ -141,9 +142,10 @@ mod tests {
                 found += 1;
             }
         }
-        assert_eq!(found, 38);
+        assert_eq!(found, 39);
         assert_eq!(parse("quantile_over_time(0.5)"), Ok(Rollup::Quantile(0.5)));
         assert_eq!(parse("deriv"), Ok(Rollup::DerivSlow));
+        assert_eq!(parse("stale_samples_over_time"), Ok(Rollup::StaleSamples));
     }
 
     #[test]

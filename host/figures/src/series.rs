@@ -1,6 +1,9 @@
 //! A series as it was read, with what is needed to speak of it.
 
+use std::borrow::Cow;
 use std::path::Path;
+
+use harzoulin::{Rollup, is_stale};
 
 use crate::text::excerpt;
 use crate::time::{DAY, Form};
@@ -56,6 +59,19 @@ impl Series {
         self.sources.extend(next.sources.into_iter().map(moved));
     }
 
+    /// How many of its readings are staleness marks.
+    pub fn marks(&self) -> usize {
+        self.values.iter().filter(|value| is_stale(**value)).count()
+    }
+
+    /// The values that a rollup sees: all, or those that are no marks.
+    pub fn seen(&self, rollup: Rollup) -> Cow<'_, [f64]> {
+        match rollup.sees_marks() || self.marks() == 0 {
+            true => (&self.values).into(),
+            false => self.values.iter().copied().filter(|value| !is_stale(*value)).collect(),
+        }
+    }
+
     /// The file that it begins in.
     pub fn file(&self) -> &str {
         &self.sources[0].file
@@ -79,14 +95,18 @@ impl Series {
 /// A note where times of series may be seconds.
 pub fn seconds(all: &[Series]) -> Option<String> {
     let found: Vec<&Series> = all.iter().filter(|series| series.may_be_seconds()).collect();
+    let first = first_of(&found)?;
+    Some(format!(
+        "{first}: all times lie in January 1970: are they seconds? Times are milliseconds"
+    ))
+}
+
+/// The file and the name of the first of several series, and how many there are besides.
+pub fn first_of(found: &[&Series]) -> Option<String> {
     let first = found.first()?;
     let name = first.name.as_ref().map(|name| format!(": series {}", excerpt(name)));
     let more = if found.len() > 1 { format!(" and {} more", found.len() - 1) } else { "".into() };
-    Some(format!(
-        "{}{}{more}: all times lie in January 1970: are they seconds? Times are milliseconds",
-        first.file(),
-        name.unwrap_or_default()
-    ))
+    Some(format!("{}{}{more}", first.file(), name.unwrap_or_default()))
 }
 
 /// The line of each reading, as runs of readings on consecutive lines: the first reading of each

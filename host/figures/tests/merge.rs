@@ -85,16 +85,18 @@ fn what_is_written_is_read_back() {
     }
 }
 
-/// Cut in two parts that overlap, the series that ship are whole again.
+/// Cut in two parts that overlap, the series that ship are whole again, without the marks of a drive
+/// that went away.
 #[test]
 fn the_series_that_ship() {
     for name in ["climate.csv", "drive.csv", "cartridge.csv"] {
         let text = std::fs::read_to_string(data().join(name)).unwrap();
-        let readings: Vec<&str> = text.split_inclusive('\n').skip(2).collect();
+        let lines = text.split_inclusive('\n').skip(2);
+        let readings: Vec<&str> = lines.filter(|line| !line.contains("stale")).collect();
         let (third, half) = (readings.len() / 3, readings.len() / 2);
         let both = merged(&readings[third..].concat(), &readings[..half].concat());
         assert_eq!(both.lines().count(), 1 + readings.len(), "{name}");
-        assert!(both == merged(&text, ""), "{name}");
+        assert!(both == merged(&readings.concat(), ""), "{name}");
     }
 }
 

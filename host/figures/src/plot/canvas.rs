@@ -6,7 +6,7 @@ use std::ops::Range;
 
 use super::axis::{self, Axis};
 use super::panel::Panel;
-use crate::series::Series;
+use super::readings::Readings;
 use crate::text::visible;
 
 /// The frames end here, and begin here or where the longest mark has room.
@@ -18,13 +18,13 @@ const LETTER: f64 = 7.0;
 const SPACE: f64 = 6.0;
 /// The heights of the title above the panels and of the times under them.
 pub const TITLE: f64 = 34.0;
-pub const TIMES: f64 = 46.0;
+pub const TIMES: f64 = 50.0;
 /// From the title to the first panel.
 const RAISED: f64 = 12.0;
 
 /// A part of a picture as far as it is drawn.
 pub struct Canvas<'a> {
-    pub series: &'a Series,
+    pub readings: Readings<'a>,
     /// Two readings that are further apart have a gap between them.
     pub silence: i64,
     /// The first and the last time that are shown.
@@ -40,12 +40,17 @@ pub struct Canvas<'a> {
 
 impl<'a> Canvas<'a> {
     /// Nothing drawn yet. Readings that are apart by more than twice the reach have a gap between them.
-    pub fn new(series: &'a Series, reach: i64, span: (i64, i64), panels: Vec<Panel>) -> Canvas<'a> {
+    pub fn new(
+        readings: Readings<'a>,
+        reach: i64,
+        span: (i64, i64),
+        panels: Vec<Panel>,
+    ) -> Canvas<'a> {
         let (low, high) = span;
         let longest = panels.iter().map(Panel::longest).max().unwrap_or(0);
         let left = LEFT.max(LABEL + LETTER * longest as f64 + SPACE);
         let x = Axis::new(low as f64, high as f64, left, RIGHT);
-        Canvas { series, silence: 2 * reach, low, high, panels, left, x, svg: String::new() }
+        Canvas { readings, silence: 2 * reach, low, high, panels, left, x, svg: String::new() }
     }
 
     pub fn put(&mut self, element: std::fmt::Arguments) {

@@ -4,6 +4,7 @@ use harzoulin::{Settings, settle};
 
 use super::canvas::{Canvas, RIGHT, TIMES, TITLE};
 use super::panel::{Panel, ends};
+use super::readings::Readings;
 use crate::crossings::Crossed;
 use crate::options::Common;
 use crate::write::Number;
@@ -28,7 +29,8 @@ pub fn draw(crossed: &Crossed, common: &Common, top: f64) -> String {
     let span = series.times.first().copied().zip(series.times.last().copied());
     let (low, high) = span.map_or((limit, limit), |_| ends(&series.values));
     let panel = Panel::of_numbers(top + TITLE, READINGS, &[low, high, limit]);
-    let mut canvas = Canvas::new(series, reach(&series.times), span.unwrap_or((0, 0)), vec![panel]);
+    let (reach, shown) = (reach(&series.times), span.unwrap_or((0, 0)));
+    let mut canvas = Canvas::new(Readings::of(series), reach, shown, vec![panel]);
     canvas.title(&format!("{}: {}", series.title, with_unit(crossed.sum(), &common.unit)));
     canvas.gaps();
     match span {

@@ -13,7 +13,8 @@ impl Canvas<'_> {
     /// Where the next reading is missing for long: the ends of the gap. One that is narrower than a
     /// column of the picture cannot be seen, so that there are never more than there are columns.
     fn gap(&self, place: usize) -> Option<(f64, f64)> {
-        let (time, next) = (self.series.times[place], self.series.times[place + 1]);
+        let times = &self.readings.times;
+        let (time, next) = (times[place], times[place + 1]);
         if next - time <= self.silence {
             return None;
         }
@@ -28,9 +29,9 @@ impl Canvas<'_> {
 
     /// Shades the gaps between readings, also with one that is not shown.
     pub fn gaps(&mut self) {
-        let times = &self.series.times;
-        let (panels, shown) = (self.heights(), shown(times, self.low, self.high));
-        for place in shown.start.saturating_sub(1)..shown.end.min(times.len().saturating_sub(1)) {
+        let (times, panels) = (&self.readings.times, self.heights());
+        let (shown, last) = (shown(times, self.low, self.high), times.len().saturating_sub(1));
+        for place in shown.start.saturating_sub(1)..shown.end.min(last) {
             let Some((from, to)) = self.gap(place) else { continue };
             let width = ((to - from) * 10.0).round() / 10.0;
             for (top, bottom) in &panels {
@@ -46,26 +47,44 @@ impl Canvas<'_> {
         }
     }
 
+    /// A line through all panels where the series went away; one of those that share a column of the
+    /// picture. Says whether there are any.
+    pub fn away(&mut self) -> bool {
+        let times = self.readings.away(self.low, self.high);
+        let mut places: Vec<f64> = times.map(|time| self.x.place(time as f64)).collect();
+        places.dedup_by_key(|x| x.floor());
+        let heights = self.heights();
+        let lines = |x: &f64| -> String {
+            heights.iter().map(|(top, bottom)| format!("M{x} {top}V{bottom}")).collect()
+        };
+        let path: String = places.iter().map(lines).collect();
+        if !path.is_empty() {
+            self.put(format_args!("<path class=\"away\" d=\"{path}\"/>"));
+        }
+        !path.is_empty()
+    }
+
     /// A line through the readings. Few readings have a dot each.
     pub fn readings(&mut self) {
-        let (times, values) = (&self.series.times, &self.series.values);
-        self.along("line", values);
-        let shown = shown(times, self.low, self.high);
+        let line = self.along("line", &self.readings.values);
+        self.put(format_args!("{line}"));
+        let shown = shown(&self.readings.times, self.low, self.high);
         let single = shown.len() <= SINGLE;
         for place in shown.filter(|_| single) {
-            let x = self.x.place(times[place] as f64);
-            let y = self.panels[0].y.place(values[place]);
+            let x = self.x.place(self.readings.times[place] as f64);
+            let y = self.panels[0].y.place(self.readings.values[place]);
             self.put(format_args!("<circle class=\"dot\" cx=\"{x}\" cy=\"{y}\" r=\"1.8\"/>"));
         }
     }
 
-    /// A line among the readings through a number for each of them, broken at gaps.
-    pub fn along(&mut self, class: &str, numbers: &[f64]) {
-        let times = &self.series.times;
-        let breaks = |place| self.gap(place).is_some();
+    /// A line among the readings through a number for each of them, broken at gaps and where the
+    /// series went away.
+    pub fn along(&self, class: &str, numbers: &[f64]) -> String {
+        let times = &self.readings.times;
+        let breaks = |place| self.gap(place).is_some() || self.readings.was_away(place);
         let shown = shown(times, self.low, self.high);
         let path = self.path(&self.panels[0].y, shown, |place| times[place], numbers, breaks);
-        self.put(format_args!("<path class=\"{class}\" d=\"{path}\"/>"));
+        format!("<path class=\"{class}\" d=\"{path}\"/>")
     }
 
     /// A line through numbers, broken after some; of those that share a column of the picture the

@@ -8,6 +8,7 @@ mod curve;
 mod figures;
 mod panel;
 mod part;
+mod readings;
 
 use std::io::Write;
 
@@ -24,7 +25,8 @@ const STYLE: &str = "text{font:12px sans-serif;fill:#333}.title{font-weight:bold
 .line{fill:none;stroke:#1f77b4;stroke-width:1.2;stroke-linejoin:round;stroke-linecap:round}.dot{fill:#1f77b4}\
 .corrected{fill:none;stroke:#1f77b4;stroke-width:1.2;stroke-opacity:.4;stroke-linejoin:round;stroke-linecap:round}\
 .window{stroke:#d95f02;stroke-width:2.4;stroke-opacity:.75}.figure{fill:#d95f02}\
-.none{stroke:#78909c;stroke-width:1.5}\
+.none{stroke:#78909c;stroke-width:1.5}.stale{stroke:#7b1fa2;stroke-width:1.5}\
+.away{stroke:#7b1fa2;stroke-width:1.2;stroke-dasharray:2 3}\
 .figures{fill:none;stroke:#d95f02;stroke-width:1.2;stroke-linejoin:round;stroke-linecap:round}\
 .window.thin{stroke-dasharray:3 3}.figure.thin{fill:#fff;stroke:#d95f02}.figures.thin{stroke-opacity:.4}";
 

@@ -1,11 +1,12 @@
 //! The part of a picture that belongs to a series and a rollup.
 
-use harzoulin::{Rollup, Step, Unit};
+use harzoulin::{Rollup, Step, Unit, is_stale};
 
 use super::canvas::{Canvas, TIMES, TITLE, shown};
 use super::curve::SINGLE;
 use super::panel::{Panel, ends};
-use crate::answer::Answer;
+use super::readings::Readings;
+use crate::answer::{Answer, Windows};
 use crate::options::Options;
 use crate::time::format_duration;
 
@@ -36,7 +37,7 @@ impl<'a> Part<'a> {
         let (start, end) = (answer.settings.start, answer.settings.end);
         let times = &answer.series.times;
         let low = match options.start {
-            Some(_) => start - answer.settled.window,
+            Some(_) => start - answer.windows(options.rollups[rollup]).settled.window,
             None => times.first().map_or(start, |first| start.min(*first)),
         };
         let high = match options.end {
@@ -44,8 +45,10 @@ impl<'a> Part<'a> {
             None => times.last().map_or(end, |last| end.max(*last)),
         };
         let (rollup, figures) = (options.rollups[rollup], &answer.figures[rollup]);
-        let shown = shown(times, low, high);
-        let drawn = [&answer.series.values, &answer.corrected].map(|list| list.get(shown.clone()));
+        let Windows { settled, behind } = answer.windows(rollup);
+        let readings = Readings::of(&answer.series);
+        let shown = shown(&readings.times, low, high);
+        let drawn = [&readings.values, &answer.corrected[..]].map(|list| list.get(shown.clone()));
         let drawn = drawn.into_iter().flatten().filter(|list| !list.is_empty()).map(ends);
         let drawn: Vec<f64> = drawn.flat_map(|(low, high)| [low, high]).collect();
         let above = Panel::of_numbers(top + TITLE, READINGS, &drawn);
@@ -54,15 +57,19 @@ impl<'a> Part<'a> {
             _ => Panel::of_numbers,
         };
         let below = below(above.bottom + BETWEEN, FIGURES, figures);
-        let (reach, panels) = (answer.settled.reach, vec![above, below]);
-        let canvas = Canvas::new(&answer.series, reach, (low, high), panels);
-        let full = FULL * usual(&answer.behind);
+        let canvas = Canvas::new(readings, settled.reach, (low, high), vec![above, below]);
+        let full = FULL * usual(behind);
         Part { canvas, answer, options, rollup, figures, full }
     }
 
     /// Whether a figure is of far fewer readings than the others.
     pub fn is_thin(&self, place: usize) -> bool {
-        f64::from(self.answer.behind[place]) < self.full
+        f64::from(self.answer.windows(self.rollup).behind[place]) < self.full
+    }
+
+    /// The length of its windows.
+    pub fn window(&self) -> i64 {
+        self.answer.windows(self.rollup).settled.window
     }
 
     pub fn draw(mut self) -> String {
@@ -70,6 +77,7 @@ impl<'a> Part<'a> {
         self.canvas.title(&self.title());
         self.canvas.gaps();
         self.canvas.times(&self.legend());
+        self.away();
         self.canvas.frame_readings(unit);
         self.corrected();
         self.canvas.readings();
@@ -82,11 +90,27 @@ impl<'a> Part<'a> {
         self.canvas.svg
     }
 
+    /// Where the series went away, and what is said of it below the rest of the legend.
+    fn away(&mut self) {
+        let mut legend = vec![];
+        if self.canvas.away() {
+            legend.push("dotted: a staleness mark, the series went away");
+        }
+        if self.figures.iter().any(|figure| is_stale(*figure)) {
+            legend.push("purple tick at the bottom: the figure is a mark");
+        }
+        if !legend.is_empty() {
+            let (x, y) = (self.canvas.left, self.canvas.panels[1].bottom + 46.0);
+            self.canvas.text(x, y, "class=\"note\"", &legend.join("; "));
+        }
+    }
+
     /// The counter as it goes on over its restarts, if it is drawn. It never falls, so that what is said
     /// of it has room at the left above.
     fn corrected(&mut self) {
         if !self.answer.corrected.is_empty() {
-            self.canvas.along("corrected", &self.answer.corrected);
+            let line = self.canvas.along("corrected", &self.answer.corrected);
+            self.canvas.put(format_args!("{line}"));
             let (x, y) = (self.canvas.left + 8.0, self.canvas.panels[0].top + 18.0);
             self.canvas.text(x, y, "class=\"note\"", "pale: the restarts added back");
         }
@@ -102,7 +126,7 @@ impl<'a> Part<'a> {
             "{}: {}{pre} of windows of {}, one every {}",
             self.answer.name(),
             self.rollup,
-            format_duration(self.answer.settled.window),
+            format_duration(self.window()),
             format_duration(self.answer.settings.step)
         )
     }

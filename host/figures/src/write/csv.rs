@@ -29,7 +29,7 @@ pub fn all(answers: &[Answer], options: &Options, out: &mut impl Write) -> io::R
                 write!(out, ",{}", Number(figures[place], options.common.decimals))?;
             }
             if options.readings {
-                write!(out, ",{}", answer.behind[place])?;
+                write!(out, ",{}", answer.behind()[place])?;
             }
             writeln!(out)?;
         }

@@ -3,9 +3,12 @@
 use std::fmt::Write as _;
 use std::io::{self, Write};
 
+use harzoulin::is_stale;
+
 use super::Number;
 use crate::answer::Answer;
 use crate::columns::READINGS;
+use crate::fields::MARK;
 use crate::options::Options;
 use crate::text::is_hidden;
 use crate::time::{Form, Stamp};
@@ -21,7 +24,7 @@ pub fn all(answers: &[Answer], options: &Options, out: &mut impl Write) -> io::R
             for (key, figures) in keys.iter().zip(&answer.figures) {
                 write!(out, ",{key}:{}", number(figures[place], options.common.decimals))?;
             }
-            writeln!(out, ",\"{READINGS}\":{}}}", answer.behind[place])?;
+            writeln!(out, ",\"{READINGS}\":{}}}", answer.behind()[place])?;
         }
     }
     Ok(())
@@ -37,9 +40,11 @@ pub fn time(millis: i64, form: Form) -> String {
     }
 }
 
-/// No figure is null. JSON has no infinity, but numbers that are read as one.
+/// No figure is null, and a staleness mark the word for it. JSON has no infinity, but numbers that are
+/// read as one.
 pub fn number(figure: f64, decimals: Option<usize>) -> String {
     match figure {
+        _ if is_stale(figure) => quoted(MARK),
         _ if figure.is_nan() => "null".into(),
         f64::INFINITY => "1e999".into(),
         f64::NEG_INFINITY => "-1e999".into(),

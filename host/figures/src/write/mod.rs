@@ -8,8 +8,11 @@ mod table;
 use std::fmt;
 use std::io;
 
+use harzoulin::is_stale;
+
 use crate::answer::Answer;
 use crate::failure::Failure;
+use crate::fields::MARK;
 use crate::files::Files;
 use crate::options::{Common, Format, Options};
 use crate::output::{Out, output};
@@ -43,7 +46,7 @@ pub fn is_named<'a>(mut all: impl ExactSizeIterator<Item = &'a Series>) -> bool 
 }
 
 /// A number with so many digits after the point, or else as the shortest text that reads back to the
-/// same bits: std's, with an exponent for what is very large or very small.
+/// same bits: std's, with an exponent for what is very large or very small. A staleness mark is its word.
 pub struct Number(pub f64, pub Option<usize>);
 
 impl fmt::Display for Number {
@@ -51,6 +54,7 @@ impl fmt::Display for Number {
         let Number(number, decimals) = *self;
         let (small, large) = (number.abs() < 1e-6 && number != 0.0, number.abs() >= 1e21);
         match decimals {
+            _ if is_stale(number) => f.write_str(MARK),
             _ if !number.is_finite() => write!(f, "{number}"),
             Some(digits) if large => write!(f, "{number:.digits$e}"),
             Some(digits) => write!(f, "{number:.digits$}"),
@@ -62,6 +66,8 @@ impl fmt::Display for Number {
 
 #[cfg(test)]
 mod tests {
+    use harzoulin::STALE;
+
     use super::*;
 
     #[test]
@@ -75,8 +81,8 @@ mod tests {
                 assert_eq!(text.parse().map(f64::to_bits), Ok(bits), "{text}");
             }
         }
-        let texts = [0.0, -0.0, 0.1, 1e21, 1e-7, 123456.0, f64::NAN, f64::INFINITY]
+        let texts = [0.0, -0.0, 0.1, 1e21, 1e-7, 123456.0, f64::NAN, f64::INFINITY, STALE]
             .map(|number| Number(number, None).to_string());
-        assert_eq!(texts, ["0", "-0", "0.1", "1e21", "1e-7", "123456", "NaN", "inf"]);
+        assert_eq!(texts, ["0", "-0", "0.1", "1e21", "1e-7", "123456", "NaN", "inf", "stale"]);
     }
 }

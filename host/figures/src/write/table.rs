@@ -19,14 +19,15 @@ pub fn table(answer: &Answer, options: &Options, out: &mut impl Write) -> io::Re
         let number = |figure: &f64| Number(*figure, options.common.decimals).to_string();
         columns.push(right(&rollup.to_string(), figures.iter().map(number).collect()));
     }
-    columns.push(right(READINGS, answer.behind.iter().map(u32::to_string).collect()));
+    columns.push(right(READINGS, answer.behind().iter().map(u32::to_string).collect()));
+    let lengths: Vec<String> = answer.lengths().map(format_duration).collect();
     writeln!(
         out,
-        "{}: {} readings, prepared by {}, windows of {}",
+        "{}: {}, prepared by {}, windows of {}",
         visible(answer.name()),
-        answer.readings,
+        answer.sum(),
         options.pre,
-        format_duration(answer.settled.window),
+        lengths.join(" and, where marks are seen, "),
     )?;
     lines(&columns, out)?;
     writeln!(out)
