@@ -31,7 +31,7 @@ const DAY: i64 = 24 * HOUR;
 const MONDAY: i64 = 1_772_409_600_000;
 
 /// The hours at which the drive was unplugged, and those at which it was plugged in again.
-const UNPLUGGED: [(i64, i64); 3] = [(249, 258), (756, 787), (1204, 1219)];
+const UNPLUGGED: [(i64, i64); 3] = [(369, 378), (745, 766), (1204, 1219)];
 
 /// Metres of tape that a drive wound, a reading an hour for ten weeks. The counter begins again at
 /// each firmware load, and runs little at night and on Sundays. An unplugged drive winds nothing: where

@@ -48,8 +48,13 @@ const PREPARED: [(&str, &str); 4] = [
 ];
 
 /// Words for a rollup that are not like its name.
-const WORDS: [(&str, &str); 4] =
-    [("average", "avg"), ("last", "default"), ("mean", "avg"), ("variance", "stdvar")];
+const WORDS: [(&str, &str); 5] = [
+    ("average", "avg"),
+    ("last", "default"),
+    ("mean", "avg"),
+    ("stale", "stale_samples"),
+    ("variance", "stdvar"),
+];
 
 /// The rollup of a text, or what was expected.
 pub fn parse(text: &str) -> Result<Rollup, String> {
@@ -153,6 +158,7 @@ mod tests {
         let message = |text: &str| parse(text).unwrap_err();
         assert_eq!(message("aveg"), "expected a rollup, perhaps avg");
         assert_eq!(message("mean"), "expected a rollup, perhaps avg");
+        assert_eq!(message("stale"), "expected a rollup, perhaps stale_samples");
         assert_eq!(message("qantile(0.5)"), "expected a rollup, perhaps quantile");
         assert_eq!(message("tmix"), "expected a rollup, perhaps tmin or tmax");
         assert_eq!(message("avg_over_tim"), "expected a rollup: see figures list");

@@ -63,12 +63,12 @@ fn a_counter_that_restarts() {
         let figures = text.lines().skip(1).map(|line| line.split_once(',').unwrap().1.to_string());
         figures.collect::<Vec<String>>()
     };
-    assert_eq!(of("resets_once", "default"), ["13", "23"]);
+    assert_eq!(of("resets_once", "max"), ["13", "23"]);
     assert_eq!(of("resets_once", "increase_pure"), ["5", "10"]);
     assert_eq!(of("resets_once", "delta"), ["5", "10"]);
     assert_eq!(of("none", "delta"), ["-5", "1"]);
     assert_eq!(of("none", "ascent_over_time"), ["3", "7"]);
-    assert_eq!(of("resets", "default"), ["25", "213"]);
+    assert_eq!(of("resets", "max"), ["25", "213"]);
 }
 
 /// Forty series in one file and in a file each, by one job and by two.

@@ -14,8 +14,9 @@ use harzoulin::{MOST, Rollup, Settings, Step, Workspace};
 
 const READINGS: i64 = 15_800_000;
 
-/// Kilobytes of address space: the readings, the prepared values, the work slice and the figures
-/// are 8 bytes × (2 + 1 + 2 + 1) a reading; growing vectors may hold half as much again.
+/// Kilobytes of address space: the readings, the prepared values, the remaining times, the work slice
+/// and the figures are 8 bytes × (2 + 1 + 1 + 2 + 1) a reading; growing vectors may hold half as much
+/// again.
 const MEMORY: u64 = 1_500_000;
 
 const MINUTE: i64 = 60_000;

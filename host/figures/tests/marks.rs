@@ -293,7 +293,7 @@ fn notes() {
         format!("figures: standard input: series b and 1 more: staleness marks, {SEE}: 3\n");
     assert_eq!(errors(line, input), several);
     let one = format!("figures: standard input: series b: staleness marks, {SEE}: 1\n");
-    assert_eq!(errors(line, &input[..36]), one);
+    assert_eq!(errors(line, &input[..34]), one);
     assert_eq!(errors("--rollup max --rollup default --step 1d -", input), several);
     assert_eq!(errors("--rollup stale_samples --rollup default --step 1d -", input), "");
     let stats = errors("--rollup default --step 1d --stats -", input);
@@ -355,10 +355,10 @@ fn a_picture_shows_where_a_series_went_away() {
     assert_eq!(svg.matches("<circle class=\"dot\"").count(), 4);
     assert!(svg.contains(&format!("{LEGEND}</text>")) && path(&svg, "stale").is_none(), "{svg}");
     // The counter goes on over what was taken out, broken where the readings are.
-    let svg = picture(READINGS, "--rollup delta --pre resets_once --step 1s --start 4000");
+    let svg = picture(READINGS, "--rollup delta --pre resets_once --step 1s");
     assert_eq!(path(&svg, "corrected").unwrap().matches('M').count(), 2);
     let none = picture("1000,1\n2000,2\n", "--rollup max --step 1s");
-    assert!(path(&none, "away").is_none() && !none.contains("mark"), "{none}");
+    assert!(path(&none, "away").is_none() && !none.contains("staleness"), "{none}");
     // One that stands before what is shown.
     let later = picture(READINGS, "--rollup max --step 1s --start 6000");
     assert!(path(&later, "away").is_none() && !later.contains(LEGEND), "{later}");

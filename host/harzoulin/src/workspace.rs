@@ -63,6 +63,18 @@ impl Workspace {
     }
 
     /// One figure for each output time of the settings' grid. Values may be [`STALE`](crate::STALE).
+    ///
+    /// ```
+    /// use harzoulin::{Rollup, STALE, Settings, Step, Workspace};
+    ///
+    /// let (timestamps, values) = ([0, 60_000, 120_000], [10.0, STALE, 12.0]);
+    /// let settings = Settings { start: 120_000, end: 120_000, ..Settings::default() };
+    /// let mut workspace = Workspace::new();
+    /// let run = workspace.run(&timestamps, &values, Step::Delta, Rollup::Max, &settings)?;
+    /// assert_eq!((run.values, run.count), (&[2.0][..], 4));
+    /// assert_eq!((run.timestamps, run.prepared), (&[0, 120_000][..], &[2.0, 2.0][..]));
+    /// # Ok::<(), harzoulin::Refusal>(())
+    /// ```
     pub fn run(
         &mut self,
         timestamps: &[i64],

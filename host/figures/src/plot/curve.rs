@@ -22,6 +22,13 @@ impl Canvas<'_> {
         (((to - from) * 10.0).round() >= 10.0).then_some((from, to))
     }
 
+    /// Whether the series went away between a reading and the next. Between two that share a column of the
+    /// picture it cannot be seen.
+    fn was_away(&self, place: usize) -> bool {
+        let column = |place: usize| self.x.place(self.readings.times[place] as f64).floor();
+        self.readings.was_away(place) && column(place) != column(place + 1)
+    }
+
     /// The place of a time, inside the frame.
     pub fn inside(&self, time: i64) -> f64 {
         self.x.place(time as f64).clamp(self.left, RIGHT)
@@ -81,7 +88,7 @@ impl Canvas<'_> {
     /// series went away.
     pub fn along(&self, class: &str, numbers: &[f64]) -> String {
         let times = &self.readings.times;
-        let breaks = |place| self.gap(place).is_some() || self.readings.was_away(place);
+        let breaks = |place| self.gap(place).is_some() || self.was_away(place);
         let shown = shown(times, self.low, self.high);
         let path = self.path(&self.panels[0].y, shown, |place| times[place], numbers, breaks);
         format!("<path class=\"{class}\" d=\"{path}\"/>")
