@@ -1,7 +1,8 @@
 //! Runs of the original Rust, stored in run.txt: of the list that `vectors run` of compare/ writes,
-//! every eleventh of the first 450 cases. Its first line says what a case holds. The values of a step
-//! and the answers of a rollup that the original does not have are the model's of compare/.
+//! every ninth case. Its first line says what a case holds. The values of a step and the answers of a
+//! rollup that the original does not have are the model's of compare/.
 
+use harzoulin::lent::{self, Slices};
 use harzoulin::{ROLLUPS, Rollup, Settings, Settled, Step, Workspace, is_stale, remaining, settle};
 
 /// The words of a case, taken in order.
@@ -107,10 +108,16 @@ impl Case {
         }
     }
 
-    fn refused(&self, rollup: Rollup, number: u64, index: usize) {
+    /// The run is refused where so many places are lent for answers, and all that the others need.
+    fn refused(&self, rollup: Rollup, points: usize, number: u64, index: usize) {
         let Case { times, values, pre, settings } = self;
-        let mut workspace = Workspace::new();
-        let refusal = workspace.run(times, values, *pre, rollup, settings).unwrap_err();
+        let readings = times.len();
+        let [mut output, mut prepared, mut work] =
+            [points, readings, 2 * readings].map(|length| vec![7.0; length]);
+        let mut remaining = vec![7; readings];
+        let (output, prepared, work) = (&mut output[..], &mut prepared[..], &mut work[..]);
+        let slices = &mut Slices { output, prepared, remaining: &mut remaining, work };
+        let refusal = lent::run(times, values, *pre, rollup, settings, slices).unwrap_err();
         assert_eq!((u64::from(refusal.number()), refusal.index()), (number, index), "{rollup}");
     }
 }
@@ -128,6 +135,10 @@ fn runs_have_the_bits_of_the_rust() {
         marks += values.iter().filter(|value| is_stale(**value)).count();
         let case = Case { times, values, pre, settings: words.settings() };
         let kinds = [words.kind(), words.kind()];
+        let points = match kinds[0] {
+            Kind::Accepted(settled, _) => settled.points,
+            Kind::Refused(..) => 0,
+        };
         let _departures = words.word();
         for number in 0..ROLLUPS.len() {
             let rollup = rollup(number, first, second);
@@ -137,7 +148,7 @@ fn runs_have_the_bits_of_the_rust() {
                 }
                 Kind::Refused(number, index) => {
                     refused += 1;
-                    case.refused(rollup, number, index);
+                    case.refused(rollup, points, number, index);
                 }
             }
         }
