@@ -34,8 +34,8 @@ static uint64_t run(uint32_t rollup, double first, int64_t step, double *figures
     return run_on((const uint64_t *)values, rollup, first, step, (uint64_t *)figures, count, index);
 }
 
-/* Tells at which of the minutes the probe was away, had it been unplugged after minute 3. A mark is a
- * NaN, which equals nothing: it is kept as bits and told by them. */
+/* Tells at which of the minutes the probe was away, had it been unplugged after minute 3. A mark is
+ * a NaN, which equals nothing: it is kept as bits and told by them. */
 static uint64_t went_away(void) {
     uint64_t patterns[READINGS], last[POINTS], readings, count, index;
     memcpy(patterns, values, sizeof patterns);

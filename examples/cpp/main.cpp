@@ -1,6 +1,6 @@
 // A day's means of a probe, by the rollup core: over the whole grid, and again in two parts on two
-// threads, which give the same; when it went over a limit; the day from two logs of it; and a day on
-// which it was unplugged.
+// threads, which give the same; when it went over a limit; the day from two logs of it; and that it
+// was unplugged.
 // Build and run: make -C examples/cpp run
 #include <cstdio>
 #include <cstring>
@@ -124,8 +124,8 @@ bool merges_logs(const Series &series) {
            ask() == HARZOULIN_REFUSED_CONFLICT;
 }
 
-// Whether it is told that a probe was unplugged at minute 90. A mark is a NaN, which equals nothing: values
-// with marks are kept as bits, and so is an answer that may be one.
+// Whether it is told that a probe was unplugged at minute 90. A mark is a NaN, which equals nothing:
+// values with marks are kept as bits, and so is an answer that may be one.
 bool tells_a_mark(const Series &series) {
     const std::size_t readings = 91;
     std::vector<std::uint64_t> values(readings);

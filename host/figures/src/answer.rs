@@ -26,7 +26,8 @@ pub struct Windows {
 pub struct Answer {
     /// The series; without its readings where no picture is drawn.
     pub series: Series,
-    /// The counter with its restarts added back, where it is drawn beside the readings that are no marks.
+    /// The counter with its restarts added back, where it is drawn beside the readings that are no
+    /// marks.
     pub corrected: Vec<f64>,
     /// How many readings it has.
     pub readings: usize,

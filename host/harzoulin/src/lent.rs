@@ -37,8 +37,8 @@ impl Slices<'_> {
     }
 }
 
-/// The window, the reach and the number of output times of a run on these times. It sees no values: where
-/// some are marks, it is handed the [`remaining`](crate::remaining) times.
+/// The window, the reach and the number of output times of a run on these times. It sees no values:
+/// where some are marks, it is handed the [`remaining`](crate::remaining) times.
 pub fn settle(timestamps: &[i64], settings: &Settings) -> Result<Settled, Refusal> {
     let s = settings;
     let (mut window, mut reach, mut points, mut index) = (0, 0, 0, 0);
@@ -68,8 +68,8 @@ pub fn settle(timestamps: &[i64], settings: &Settings) -> Result<Settled, Refusa
     Ok(Settled { window, reach, points: points as usize })
 }
 
-/// Writes the values after a preparing step to the first entries of `prepared`. A mark is refused, as any
-/// NaN.
+/// Writes the values after a preparing step to the first entries of `prepared`. A mark is refused, as
+/// any NaN.
 pub fn prepare(
     timestamps: &[i64],
     values: &[f64],
@@ -126,7 +126,7 @@ pub fn run(
     accepted(number, index).map(|()| count)
 }
 
-/// As [`run`], with window and reach given.
+/// As [`run`], with window and reach given, settled on the times that the rollup sees.
 pub fn settled_run(
     timestamps: &[i64],
     values: &[f64],
@@ -200,8 +200,8 @@ pub fn nearest(timestamps: &[i64], time: i64) -> Result<Option<usize>, Refusal> 
 }
 
 /// Writes the readings that are in at least one of two series, those in both once, to the first
-/// entries of `timestamps` and `values`, by their times, and gives how many there are. A mark is refused,
-/// as any NaN.
+/// entries of `timestamps` and `values`, by their times, and gives how many there are. A mark is
+/// refused, as any NaN.
 ///
 /// The first series is looked at before the second, and both before the result: a refusal of 1 to 5
 /// is of the first if that, merged with an empty one, is refused so, too.

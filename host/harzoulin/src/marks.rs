@@ -42,6 +42,7 @@ pub fn is_stale(value: f64) -> bool {
 
 /// The times of the readings that the figures of a rollup are made of: all of them, or those of the
 /// readings that are no marks. They are what [`settle`](crate::settle) is handed, which sees no values.
+/// There are as many values as times.
 ///
 /// ```
 /// use harzoulin::{Rollup, STALE, remaining};

@@ -34,7 +34,8 @@ pub enum Refusal {
     Grid,
     /// 12: the output shorter than the grid.
     Output,
-    /// 13: the prepared slice shorter than the series; in a run, that or the one for the remaining times.
+    /// 13: the prepared slice shorter than the series; in a run, that or the one for the remaining
+    /// times.
     Prepared,
     /// 14: the work slice under twice the series.
     Work,
@@ -46,7 +47,8 @@ pub enum Refusal {
     Conflict,
     /// 18: a result slice shorter than the merged series.
     Merged,
-    /// 19: a rollup that sees marks with a preparing step other than none.
+    /// 19: [`Rollup::Default`](crate::Rollup::Default) or
+    /// [`Rollup::StaleSamples`](crate::Rollup::StaleSamples) with a preparing step other than none.
     StepOfMarks,
     /// 28: a number that names no step or rollup.
     Choice,

@@ -89,7 +89,8 @@ impl Workspace {
         })
     }
 
-    /// As [`run`](Workspace::run), with window and reach given.
+    /// As [`run`](Workspace::run), with window and reach given, settled on the times that the rollup sees:
+    /// [`remaining`](crate::remaining).
     pub fn settled_run(
         &mut self,
         timestamps: &[i64],

@@ -22,8 +22,8 @@ impl Canvas<'_> {
         (((to - from) * 10.0).round() >= 10.0).then_some((from, to))
     }
 
-    /// Whether the series went away between a reading and the next. Between two that share a column of the
-    /// picture it cannot be seen.
+    /// Whether the series went away between a reading and the next. Between two that share a column of
+    /// the picture it cannot be seen.
     fn was_away(&self, place: usize) -> bool {
         let column = |place: usize| self.x.place(self.readings.times[place] as f64).floor();
         self.readings.was_away(place) && column(place) != column(place + 1)

@@ -46,7 +46,8 @@ pub fn is_named<'a>(mut all: impl ExactSizeIterator<Item = &'a Series>) -> bool 
 }
 
 /// A number with so many digits after the point, or else as the shortest text that reads back to the
-/// same bits: std's, with an exponent for what is very large or very small. A staleness mark is its word.
+/// same bits: std's, with an exponent for what is very large or very small. A staleness mark is its
+/// word.
 pub struct Number(pub f64, pub Option<usize>);
 
 impl fmt::Display for Number {
