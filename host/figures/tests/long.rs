@@ -78,6 +78,31 @@ fn thirty_years() {
     }
 }
 
+/// A mark in place of every thousandth reading: the times that remain are copied to be settled on.
+#[test]
+#[ignore = "takes some seconds and half a gigabyte of disk"]
+fn thirty_years_with_marks() {
+    let folder = common::Folder::new("marks");
+    let mut file = BufWriter::new(File::create(folder.path().join("long.csv")).unwrap());
+    for (place, (time, value)) in (0..READINGS).map(|place| (place, reading(place))) {
+        match place % 1000 {
+            999 => writeln!(file, "{time},stale").unwrap(),
+            _ => writeln!(file, "{time},{value}").unwrap(),
+        }
+    }
+    file.flush().unwrap();
+    let line = "--rollup stale_samples --rollup avg --step 1d --readings --jobs 2";
+    let (seconds, stats) = run(&folder, line);
+    let marks = READINGS / 1000;
+    let sum = format!("1 series, {READINGS} readings, {marks} of them staleness marks, ");
+    assert!(stats.contains(&sum), "{stats}");
+    let text = folder.read("out.csv");
+    let counted = text.lines().skip(1).map(|line| line.split(',').nth(1).unwrap());
+    let counted: f64 = counted.map(|count| count.parse::<f64>().unwrap()).sum();
+    assert_eq!(counted, marks as f64);
+    println!("{line}: {seconds:.2} s\n{stats}");
+}
+
 /// Crossings need no more memory than the readings, where they are few, and the picture is small.
 #[test]
 #[ignore = "takes some seconds and half a gigabyte of disk"]
