@@ -32,7 +32,9 @@ pub fn run(
 ) -> Result<u64, Refusal>
     ensures { outcome (reply result) (lent dst_values.new prepared.new remaining.new work.new) ≡ run_of series.now.times series.now.values pre handler rc (lent dst_values.old prepared.old remaining.old work.old) }
 {
-    call::call(series, pre, handler, rc, dst_values, prepared, remaining, work)
+    call::call(
+        series, pre, handler, rc, dst_values, prepared, remaining, work,
+    )
 }
 
 // The number of samples counted, and the figures over the grid of sc, with the window and the reach that it is given.
@@ -48,5 +50,7 @@ pub fn settled_run(
 ) -> Result<u64, Refusal>
     ensures { outcome (reply result) (lent dst_values.new prepared.new remaining.new work.new) ≡ settled_run_of series.now.times series.now.values pre handler sc (lent dst_values.old prepared.old remaining.old work.old) }
 {
-    call::call(series, pre, handler, sc, dst_values, prepared, remaining, work)
+    call::call(
+        series, pre, handler, sc, dst_values, prepared, remaining, work,
+    )
 }
