@@ -1,7 +1,7 @@
 // Replays the list `rollup`. A case's words are the two parameters, the window record (previous value and
 // time, the values beside the window, whether a reading follows and its time, 0 where none does, output time,
 // window), the number of readings, their times, their values, a word that says where the port departs from the
-// Rust, and the answers of the 49 rollups.
+// Rust, and the answers of the 50 rollups.
 #![tactic(auto)]
 
 ghost use Rattle.std.specs.Prelude.{◌≡◌, ◌≤◌, leb, nat_abs, true, length};
@@ -15,7 +15,7 @@ use vectors::{Cursor, Unread};
 use window::types::RollupFuncArg;
 
 // The number of rollups.
-const ROLLUPS: u32 = 49;
+const ROLLUPS: u32 = 50;
 
 // How far from 0 a time may lie that a rollup is handed: 2^54.
 const RANGE: u64 = 0x40_0000_0000_0000;
