@@ -43,7 +43,7 @@ pub fn settle_accepted(times: &AcceptedTimes, rc: RollupConfig) -> Settlement
 }
 
 // The window, the reach and the number of output times, or the first of rows 6 to 11 that refuses.
-pub fn settle_settings(times: &AcceptedTimes, rc: RollupConfig) -> Result<Settlement, Refusal>
+fn settle_settings(times: &AcceptedTimes, rc: RollupConfig) -> Result<Settlement, Refusal>
     ensures { reply result ≡ reply_of (settings_checked rc) (settlement times.now.slice.now rc) }
 {
     settings::check_settings(rc)?;
