@@ -19,25 +19,9 @@ const RUNS: [Call; 2] = [Call::Run, Call::SettledRun];
 
 /// What any call may be handed: values 1, 2, 3 and so on, one output time, and room for all that is written.
 fn case_of(timestamps: &[i64]) -> Case {
-    let n = timestamps.len();
-    Case {
-        timestamps: timestamps.to_vec(),
-        values: (1..=n).map(|k| (k as f64).to_bits()).collect(),
-        settings: Settings { step: 1, window: 1, ..Settings::default() },
-        reach: 1,
-        dst_values: vec![UNSET],
-        prepared: vec![UNSET; n],
-        remaining: vec![UNSET as i64; n],
-        work: vec![UNSET; 2 * n],
-        limit: 1.5,
-        indexes: vec![UNSET; n],
-        lent: n,
-        merged_timestamps: vec![UNSET as i64; n],
-        merged_values: vec![UNSET; n],
-        lent_times: n,
-        lent_values: n,
-        ..Case::default()
-    }
+    let values = (1..=timestamps.len()).map(|k| k as f64).collect();
+    let settings = Settings { step: 1, window: 1, ..Settings::default() };
+    Case { reach: 1, ..cases::for_any_call(&(timestamps.to_vec(), values), settings) }
 }
 
 /// The number and the index that a call is refused with, 0 and 0 where it is accepted.
@@ -237,7 +221,7 @@ fn prepared(step: &str, times: &[i64], values: &[f64]) -> Vec<f64> {
     let values = values.iter().map(|v| v.to_bits()).collect();
     let outcome = oracle::outcome(Call::Prepare, &Case { pre, values, ..case_of(times) });
     assert_eq!((outcome.number, outcome.index), (0, 0));
-    outcome.prepared.into_iter().map(f64::from_bits).collect()
+    outcome.prepared.into_iter().take(times.len()).map(f64::from_bits).collect()
 }
 
 /// A reading with the time of the one before it gets the figure before, and the next one is compared with the first

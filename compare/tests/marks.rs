@@ -26,19 +26,8 @@ fn v(value: f64) -> u64 {
 
 /// What any call may be handed, with one entry more in each slice than is needed.
 fn case_of(timestamps: &[i64], values: &[u64], settings: Settings) -> Case {
-    let n = timestamps.len();
-    let series = (timestamps.to_vec(), vec![0.0; n]);
-    Case {
-        values: values.to_vec(),
-        limit: 1.5,
-        indexes: vec![UNSET; n],
-        lent: n,
-        merged_timestamps: vec![UNSET as i64; n],
-        merged_values: vec![UNSET; n],
-        lent_times: n,
-        lent_values: n,
-        ..cases::average(&series, settings)
-    }
+    let series = (timestamps.to_vec(), vec![0.0; timestamps.len()]);
+    Case { values: values.to_vec(), ..cases::for_any_call(&series, settings) }
 }
 
 fn grid(start: i64, end: i64, step: i64, window: i64) -> Settings {

@@ -139,6 +139,21 @@ pub fn average((timestamps, values): &(Vec<i64>, Vec<f64>), settings: Settings) 
     case
 }
 
+/// The same, with the slices that the calls of crossings and merge fill besides: what any call may be handed.
+pub fn for_any_call(series: &(Vec<i64>, Vec<f64>), settings: Settings) -> Case {
+    let n = series.0.len();
+    Case {
+        limit: 1.5,
+        indexes: vec![UNSET; n],
+        lent: n,
+        merged_timestamps: vec![UNSET as i64; n],
+        merged_values: vec![UNSET; n],
+        lent_times: n,
+        lent_values: n,
+        ..average(series, settings)
+    }
+}
+
 /// The window and reach that a run would settle, or any others.
 fn settled(rng: &mut Rng, case: &mut Case) {
     let (window, reach) = judge::settle(&case.settings, &case.timestamps);

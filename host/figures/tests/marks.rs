@@ -2,7 +2,7 @@
 
 mod common;
 
-use common::{Folder, Outcome, SECONDS, data, figures, figures_in};
+use common::{Folder, Outcome, SECONDS, data, figures, figures_in, picture};
 
 /// A drive that went away at 3000 and was back at 6000.
 const READINGS: &str = "1000,1\n2000,2\n3000,stale\n4000,stale\n6000,5\n7000,4\n";
@@ -83,14 +83,19 @@ time  default  max  readings
     assert_eq!(output(&format!("{line} --format json --decimals 0 -")), objects);
 }
 
+/// So many readings a step apart, each a mark but the first of every so many.
+fn marks_but(every: i64, count: i64, step: i64) -> String {
+    let line = |k: i64| match k % every {
+        0 => format!("{},{k}\n", k * step),
+        _ => format!("{},stale\n", k * step),
+    };
+    (0..count).map(line).collect()
+}
+
 /// Where a window is settled by the readings, those with marks may settle another.
 #[test]
 fn two_lengths_of_windows() {
-    let line = |place: i64| match place % 3 {
-        0 => format!("{},{place}\n", place * 1000),
-        _ => format!("{},stale\n", place * 1000),
-    };
-    let input: String = (0..60).map(line).collect();
+    let input = marks_but(3, 60, 1000);
     let title = |rollups: &str| {
         let line = format!("{rollups} --step 500ms --adjust-window --format text -");
         let text = figures(&line, input.as_bytes()).output;
@@ -325,18 +330,6 @@ fn jobs() {
     }
 }
 
-/// The picture of readings.
-fn picture(readings: &str, options: &str) -> String {
-    let folder = Folder::new("away");
-    folder.write("in.csv", readings);
-    let line = format!("{options} --plot p.svg --output o.csv in.csv");
-    let outcome = figures_in(folder.path(), &line, b"");
-    assert_eq!(outcome.status, 0, "{}", outcome.errors);
-    let svg = folder.read("p.svg");
-    assert!(!svg.contains("NaN") && !svg.contains("inf\""), "{svg}");
-    svg
-}
-
 /// The path of a class.
 fn path<'a>(svg: &'a str, class: &str) -> Option<&'a str> {
     let (_, rest) = svg.split_once(&format!("<path class=\"{class}\" d=\""))?;
@@ -394,11 +387,7 @@ fn a_picture_of_figures_that_are_marks() {
 /// As many marks as there may be are drawn in as many columns as there are.
 #[test]
 fn many_marks_are_thinned() {
-    let line = |k: i64| match k % 2 {
-        0 => format!("{},{k}\n", k * 60_000),
-        _ => format!("{},stale\n", k * 60_000),
-    };
-    let readings: String = (0..100_000).map(line).collect();
+    let readings = marks_but(2, 100_000, 60_000);
     let svg = picture(&readings, "--rollup max --step 1d");
     assert!(svg.len() < 400_000, "{}", svg.len());
     let lines = path(&svg, "away").unwrap().matches('M').count() / 2;

@@ -2,17 +2,7 @@
 
 mod common;
 
-use common::{Folder, Outcome, figures_in};
-
-/// The picture of readings.
-fn picture(readings: &str, options: &str) -> String {
-    let folder = Folder::new("picture");
-    folder.write("in.csv", readings);
-    let line = format!("{options} --plot p.svg --output o.csv in.csv");
-    let outcome = figures_in(folder.path(), &line, b"");
-    assert_eq!(outcome.status, 0, "{}", outcome.errors);
-    folder.read("p.svg")
-}
+use common::{Folder, Outcome, figures_in, picture};
 
 /// The texts of a picture.
 fn texts(svg: &str) -> Vec<&str> {

@@ -48,6 +48,19 @@ pub fn figures(arguments: &str, input: &[u8]) -> Outcome {
     figures_in(&env::temp_dir(), arguments, input)
 }
 
+/// The picture of readings, in which every place is a number.
+#[allow(dead_code)]
+pub fn picture(readings: &str, options: &str) -> String {
+    let folder = Folder::new("picture");
+    folder.write("in.csv", readings);
+    let line = format!("{options} --plot p.svg --output o.csv in.csv");
+    let outcome = figures_in(folder.path(), &line, b"");
+    assert_eq!(outcome.status, 0, "{}", outcome.errors);
+    let svg = folder.read("p.svg");
+    assert!(!svg.contains("NaN") && !svg.contains("inf\""), "{svg}");
+    svg
+}
+
 /// The repository's folder of series.
 #[allow(dead_code)]
 pub fn data() -> PathBuf {
