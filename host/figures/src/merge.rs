@@ -6,18 +6,16 @@ use std::io::{self, Write};
 use harzoulin::merge;
 
 use crate::failure::Failure;
-use crate::files::Files;
 use crate::inputs;
 use crate::jobs::in_order;
 use crate::options::Common;
 use crate::places;
 use crate::progress::Progress;
 use crate::refused::refused_merge;
-use crate::say::say;
 use crate::series::{self, Series};
-use crate::time::{Form, Stamp};
-use crate::write::rows::{self, Field};
-use crate::write::{self, Number};
+use crate::time::Form;
+use crate::write;
+use crate::write::readings::{Readings, csv};
 
 /// The series of two logs.
 struct Merged {
@@ -42,11 +40,7 @@ pub fn run(common: &Common) -> Result<(), Failure> {
         let merged = in_order(common.jobs, pairs, |_, _, (one, other)| Merged::new(one, other))?;
         Ok((merged, notes))
     })?;
-    let mut files = Files::default();
-    write::write(common, &mut files, |out| all(&merged, common, out))?;
-    files.put()?;
-    notes.iter().for_each(say);
-    Ok(())
+    write::with_notes(common, &notes, |out| all(&merged, common, out))
 }
 
 /// The two series of each name, in the order in which they begin; one of them is without readings
@@ -87,11 +81,9 @@ fn take_name(file: &mut [Series], other: &[Series]) -> Result<(), Failure> {
     Ok(())
 }
 
-const HEADERS: [&str; 3] = ["name", "time", "value"];
-
 fn all(merged: &[Merged], common: &Common, out: &mut impl Write) -> io::Result<()> {
     let named = merged.iter().any(|series| series.name.is_some());
-    rows::csv(HEADERS, named, merged.iter().flat_map(|series| series.rows(common)), out)
+    csv(named, merged.iter().map(|series| series.readings(common)), out)
 }
 
 impl Merged {
@@ -102,14 +94,9 @@ impl Merged {
         Ok(Merged { name: first.name, form, times, values })
     }
 
-    /// Values are written to the last bit, since they are to be read again.
-    fn rows(&self, common: &Common) -> impl Iterator<Item = [Field<'_>; 3]> {
+    fn readings(&self, common: &Common) -> Readings<'_> {
         let name = self.name.as_deref().unwrap_or_default();
         let form = common.times.unwrap_or(self.form);
-        let readings = self.times.iter().zip(&self.values);
-        readings.map(move |(time, value)| {
-            let (time, value) = (Stamp(*time, form), Number(*value, None));
-            [Field::Name(name), Field::Time(time), Field::Value(value)]
-        })
+        Readings { name, form, times: &self.times, values: &self.values }
     }
 }

@@ -5,13 +5,11 @@ use std::io::{self, Write};
 use harzoulin::nearest;
 
 use crate::failure::Failure;
-use crate::files::Files;
 use crate::inputs::Inputs;
 use crate::options::{Common, Format};
 use crate::places;
 use crate::progress::Progress;
 use crate::refused::refused_time;
-use crate::say::say;
 use crate::series::Series;
 use crate::time::Stamp;
 use crate::write::rows::{self, Field};
@@ -28,11 +26,7 @@ pub fn run(common: &Common, asked: Stamp) -> Result<(), Failure> {
     });
     let found = found.collect::<Result<Vec<_>, _>>()?;
     let found: Vec<_> = series.iter().zip(found).collect();
-    let mut files = Files::default();
-    write::write(common, &mut files, |out| all(&found, asked, common, out))?;
-    files.put()?;
-    notes.iter().for_each(say);
-    Ok(())
+    write::with_notes(common, &notes, |out| all(&found, asked, common, out))
 }
 
 const HEADERS: [&str; 5] = ["name", "index", "time", "value", "distance"];

@@ -2,6 +2,7 @@
 
 mod csv;
 mod json;
+pub mod readings;
 pub mod rows;
 mod table;
 
@@ -16,6 +17,7 @@ use crate::fields::MARK;
 use crate::files::Files;
 use crate::options::{Common, Format, Options};
 use crate::output::{Out, output};
+use crate::say::say;
 use crate::series::Series;
 pub use table::table;
 
@@ -38,6 +40,19 @@ pub fn write(
         Some(path) => files.write(path, fill),
         None => output(fill),
     }
+}
+
+/// Writes the only output of a task, and then says what a person should know.
+pub fn with_notes(
+    common: &Common,
+    notes: &[String],
+    fill: impl FnOnce(&mut Out) -> io::Result<()>,
+) -> Result<(), Failure> {
+    let mut files = Files::default();
+    write(common, &mut files, fill)?;
+    files.put()?;
+    notes.iter().for_each(say);
+    Ok(())
 }
 
 /// Whether names stand before what CSV has: where there are several series, or a file has them.
