@@ -8,7 +8,7 @@ use harzoulin::{Rollup, Settings};
 use crate::columns::Chosen;
 use crate::failure::Failure;
 use crate::given::{Given, Task, usage, value};
-use crate::options::{Common, Format, Options};
+use crate::options::{Common, Format, Options, ReadingsFormat};
 use crate::rollups;
 use crate::time::{self, Form, Stamp};
 
@@ -31,6 +31,8 @@ pub enum Command {
     Nearest(Common, Stamp),
     /// One series from two logs.
     Merge(Common),
+    /// The readings themselves.
+    Readings(Common, ReadingsFormat),
     /// The table of rollups.
     List,
     /// The series that ship, with the file for the picture.
@@ -74,6 +76,7 @@ pub fn parse(arguments: impl Iterator<Item = String>) -> Result<Command, Failure
             2 => common(&given).map(Command::Merge),
             count => Err(usage(format!("expected two files for merge, found {count}"))),
         },
+        Task::Readings => readings(&given),
         Task::List => Ok(Command::List),
         Task::Demo => Ok(Command::Demo(picture(&given)?.unwrap_or("demo.svg".into()))),
     }
@@ -171,8 +174,24 @@ fn options(given: &Given) -> Result<Options, Failure> {
     Ok(options)
 }
 
+/// In bytes times are of one form.
+fn readings(given: &Given) -> Result<Command, Failure> {
+    let common = but_for_format(given)?;
+    let format = given.read("--format", readings_format)?.unwrap_or_default();
+    match (format, common.times) {
+        (ReadingsFormat::Raw, Some(_)) => Err(usage("--times means nothing with --format raw")),
+        _ => Ok(Command::Readings(common, format)),
+    }
+}
+
 /// The files, and how what comes of them is shown.
 fn common(given: &Given) -> Result<Common, Failure> {
+    let common = but_for_format(given)?;
+    Ok(Common { format: given.read("--format", format)?.unwrap_or_default(), ..common })
+}
+
+/// All of that but for the format, which is the usual one: not all tasks have the same.
+fn but_for_format(given: &Given) -> Result<Common, Failure> {
     if given.files.is_empty() {
         return Err(usage("expected a file, or - for standard input"));
     }
@@ -185,7 +204,7 @@ fn common(given: &Given) -> Result<Common, Failure> {
     Ok(Common {
         files: given.files.clone(),
         chosen: Chosen { time, value, name },
-        format: given.read("--format", format)?.unwrap_or_default(),
+        format: Format::default(),
         decimals: given.read("--decimals", decimals)?,
         times: given.read("--times", form)?,
         output: given.text("--output").filter(|file| *file != "-").map(String::from),
@@ -218,6 +237,14 @@ fn format(text: &str) -> Result<Format, &'static str> {
         "text" => Ok(Format::Text),
         "json" => Ok(Format::Json),
         _ => Err("expected csv, text or json"),
+    }
+}
+
+fn readings_format(text: &str) -> Result<ReadingsFormat, &'static str> {
+    match text {
+        "csv" => Ok(ReadingsFormat::Csv),
+        "raw" => Ok(ReadingsFormat::Raw),
+        _ => Err("expected csv or raw"),
     }
 }
 

@@ -14,6 +14,7 @@ pub enum Task {
     Crossings,
     Nearest,
     Merge,
+    Readings,
     List,
     Demo,
 }
@@ -21,8 +22,8 @@ pub enum Task {
 impl Task {
     /// The task of a first argument, if it is the word for one.
     pub fn named(word: &str) -> Option<Task> {
-        use Task::{Crossings, Demo, Explain, List, Merge, Nearest};
-        let words = [Explain, Crossings, Nearest, Merge, List, Demo];
+        use Task::{Crossings, Demo, Explain, List, Merge, Nearest, Readings};
+        let words = [Explain, Crossings, Nearest, Merge, Readings, List, Demo];
         words.into_iter().find(|task| task.word() == word)
     }
 
@@ -33,6 +34,7 @@ impl Task {
             Task::Crossings => "crossings",
             Task::Nearest => "nearest",
             Task::Merge => "merge",
+            Task::Readings => "readings",
             Task::List => "list",
             Task::Demo => "demo",
         }
@@ -57,8 +59,11 @@ const fn flag(name: &'static str, tasks: &'static [Task]) -> Known {
 const ALONE: &[Task] = &[Task::Figures];
 const BOTH: &[Task] = &[Task::Figures, Task::Explain];
 const SHOWN: &[Task] = &[Task::Figures, Task::Crossings, Task::Nearest];
-const WRITTEN: &[Task] = &[Task::Figures, Task::Crossings, Task::Nearest, Task::Merge];
-const FILES: &[Task] = &[Task::Figures, Task::Explain, Task::Crossings, Task::Nearest, Task::Merge];
+const FORMATS: &[Task] = &[Task::Figures, Task::Crossings, Task::Nearest, Task::Readings];
+const WRITTEN: &[Task] =
+    &[Task::Figures, Task::Crossings, Task::Nearest, Task::Merge, Task::Readings];
+const FILES: &[Task] =
+    &[Task::Figures, Task::Explain, Task::Crossings, Task::Nearest, Task::Merge, Task::Readings];
 
 const OPTIONS: [Known; 30] = [
     flag("--adjust-window", BOTH),
@@ -66,7 +71,7 @@ const OPTIONS: [Known; 30] = [
     valued("--decimals", SHOWN),
     flag("--default-rollup", BOTH),
     valued("--end", BOTH),
-    valued("--format", SHOWN),
+    valued("--format", FORMATS),
     valued("--holt-winters", BOTH),
     valued("--jobs", WRITTEN),
     valued("--limit", &[Task::Crossings]),

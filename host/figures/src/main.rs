@@ -25,6 +25,7 @@ mod plain;
 mod plot;
 mod progress;
 mod read;
+mod readings;
 mod refused;
 mod rollups;
 mod say;
@@ -73,6 +74,7 @@ fn run(command: Command) -> Result<(), Failure> {
         Command::Crossings(common, limit) => crossings::run(&common, limit),
         Command::Nearest(common, asked) => nearest::run(&common, asked),
         Command::Merge(common) => merge::run(&common),
+        Command::Readings(common, format) => readings::run(&common, format),
         Command::List => output::text(&list::text()),
         Command::Demo(plot) => demo::run(&plot),
         Command::Help => output::text(HELP),

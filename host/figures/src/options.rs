@@ -19,6 +19,16 @@ pub enum Format {
     Json,
 }
 
+/// How readings are written.
+#[derive(Clone, Copy, Debug, Default, PartialEq, Eq)]
+pub enum ReadingsFormat {
+    /// A line for each reading.
+    #[default]
+    Csv,
+    /// The bytes of times and values, for programs.
+    Raw,
+}
+
 /// What all that read files are told: the files, and how what comes of them is shown.
 #[derive(Clone, Debug)]
 pub struct Common {

@@ -166,7 +166,7 @@ fn options_that_mean_nothing() {
     refused(&format!("explain {line} --rollup max --at 0 -"), "figures explain takes one rollup");
 }
 
-/// Neither crossings nor the nearest reading have a window, a grid or a rollup.
+/// Neither crossings nor readings, the nearest or all, have a window, a grid or a rollup.
 #[test]
 fn options_of_figures() {
     for option in [
@@ -188,6 +188,7 @@ fn options_of_figures() {
         let message = |task: &str| format!("figures {task} takes no {name}");
         refused(&format!("crossings --limit 40 {option} -"), &message("crossings"));
         refused(&format!("nearest --at 0 {option} -"), &message("nearest"));
+        refused(&format!("readings {option} -"), &message("readings"));
     }
     refused("crossings --limit 40 --at 0 -", "figures crossings takes no --at");
     refused("crossings --limit 40 --unit m -", "--unit means nothing without --plot");

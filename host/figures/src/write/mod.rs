@@ -1,4 +1,5 @@
-//! Figures, and what is found in series, as CSV, as JSON or as tables of text.
+//! Figures, what is found in series, and their readings: as CSV, as JSON, as tables of text or as
+//! bytes.
 
 mod csv;
 mod json;

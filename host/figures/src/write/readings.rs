@@ -1,9 +1,12 @@
-//! Readings in CSV that reads back to them.
+//! Readings as they are read: in CSV that reads back to them, and in bytes for programs.
 
 use std::io::{self, Write};
 
 use super::Number;
+use super::json::quoted;
 use super::rows::{self, Field};
+use crate::columns::READINGS;
+use crate::series::Series;
 use crate::time::{Form, Stamp};
 
 /// The readings of a series, with the name that stands before them and the form of their times.
@@ -34,4 +37,21 @@ impl<'a> Readings<'a> {
             [Field::Name(name), Field::Time(time), Field::Value(value)]
         })
     }
+}
+
+/// For each series a line of JSON with its name and how many readings follow: all times, then the bits
+/// of all values, eight bytes each, the lowest first. The name is the one in the file, or null: a
+/// program knows what its files are called.
+pub fn raw(all: &[Series], out: &mut impl Write) -> io::Result<()> {
+    for series in all {
+        let name = series.name.as_deref().map_or("null".into(), quoted);
+        writeln!(out, "{{\"name\":{name},\"{READINGS}\":{}}}", series.times.len())?;
+        for time in &series.times {
+            out.write_all(&time.to_le_bytes())?;
+        }
+        for value in &series.values {
+            out.write_all(&value.to_bits().to_le_bytes())?;
+        }
+    }
+    Ok(())
 }
