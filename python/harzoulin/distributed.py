@@ -1,0 +1,277 @@
+"""Figures of many series, and of one long one, worked out by the workers of a Dask cluster.
+
+    with LocalCluster() as cluster, Client(cluster) as client:
+        for result in run_many(client, sources, rollup="avg", step=3_600_000):
+            ...
+        figures = run_one(client, ("times.npy", "values.npy"), rollup="median", step=3_600_000)
+
+Dask schedules and moves data. A worker needs this package, and the files under the paths that it is given.
+No task waits for another one's answer, so that one that was lost with its worker is simply done again, by
+whichever worker is there.
+"""
+
+import threading
+import uuid
+from dataclasses import asdict, dataclass, replace
+from itertools import islice
+from typing import Any
+
+import numpy as np
+from distributed import as_completed
+
+from . import lent
+from .calls import run, settled_run
+from .marks import remaining_times
+from .names import Rollup, step_number
+from .pandas_series import arrays_of
+from .refusal import Refused
+from .settings import Settings
+from .sources import Found, Made, source_of
+from .stretches import cut, pays, work
+from .workspace import Figures
+
+__all__ = ["Result", "run_many", "run_one"]
+
+# How often in a row all pieces that are left may be lost with their workers.
+_LOST = 5
+
+
+@dataclass(frozen=True)
+class Result:
+    """What became of one series and one rollup.
+
+    place: where the source stood among those that were handed in.
+    source: the source, as `Npy`, `Csv` or `Made`.
+    name: the name of the series where the source has one.
+    rollup: the rollup; None where the source could not be read.
+    figures: the figures, or None.
+    error: None, or why there are no figures: a `Refused`, or what was met when the source was read.
+    notes: what a person should know of how the source was read.
+    """
+
+    place: int
+    source: Any
+    name: str | None = None
+    rollup: Rollup | None = None
+    figures: Figures | None = None
+    error: Exception | None = None
+    notes: tuple = ()
+
+
+def run_many(client, sources, *, rollup, pre="none", prepared=False, ahead=None, **settings):
+    """Figures of many series, as they are worked out: yields a `Result` for each series and rollup.
+
+    A source is a pair of paths of .npy files, of times and values, which a worker maps into memory; a path of
+    a CSV, as the command `figures` reads it; or a function that a worker calls, which gives times and
+    values or a pandas Series. `rollup` is one or a list, the settings are those of `Settings`; without
+    start and end each series has a grid of its own. A series that is refused, or cannot be read, is a
+    result. With `prepared` the figures have remaining times and prepared values as well.
+
+    So many sources are under way at a time: `ahead`, or two for each thread that the cluster has now. The
+    others are taken as results are.
+    """
+    rollups = [Rollup.of(each) for each in (rollup if isinstance(rollup, list) else [rollup])]
+    step_number(pre)
+    asked = rollups, pre, asdict(Settings(**settings)), prepared
+    waiting = enumerate(map(source_of, sources))
+    ahead = ahead or max(2 * sum(client.nthreads().values()), 1)
+    under_way = {}
+
+    def submit(count):
+        for place, source in islice(waiting, count):
+            under_way[client.submit(_results, place, source, *asked, pure=False)] = place, source
+            done.add(next(reversed(under_way)))
+
+    done = as_completed(with_results=True, raise_errors=False)
+    try:
+        submit(ahead)
+        for future, answer in done:
+            place, source = under_way.pop(future)
+            if future.status != "finished":
+                answer = [Result(place, source, error=_error(answer))]
+            submit(1)
+            yield from answer
+    finally:
+        client.cancel(list(under_way))
+
+
+def run_one(client, series, *, rollup, pre="none", pieces=None, **settings):
+    """The figures of one series, worked out by all workers: answers, count, remaining times and prepared
+    values as `run` gives them, to the bit.
+
+    The series is settled once and its grid cut into stretches of about equal work; each is a settled run with
+    the window and the reach of the whole, and they are joined. That the cut cannot be seen is proved for every
+    cut of every accepted run: theorem `cut-rejoins` of crates/claims (`Rejoined` of specs/Cut.antt) says that
+    the answers joined are the run's, bit for bit, and that the counts add up to its count and the samples once
+    more for each piece after the first; `stretches-cut` that any split of a grid into consecutive stretches is
+    such a cut.
+
+    `series` is a source as of `run_many` with one series, a pair of numpy arrays, or a pandas Series. Arrays are
+    sent to each worker, a file or a function is read by each. `pieces` is how many stretches there are, one for
+    each output time at the most; without it up to four for each thread, as far as that pays: a piece begins
+    with a pass over the whole series. The settings are those of `Settings`. A refusal is raised.
+    """
+    is_pandas = type(series).__module__.partition(".")[0] == "pandas"
+    given = arrays_of(series) if is_pandas else series
+    held = _Held(client, given)
+    try:
+        asked = Rollup.of(rollup), pre, asdict(Settings(**settings))
+        threads = max(sum(client.nthreads().values()), 1)
+        ((_, plan),) = held.answers([(_plan, (*asked, pieces, threads))])
+        figures = _joined(held, plan, *asked[:2])
+    finally:
+        held.forget()
+    return figures.as_pandas(series.name) if is_pandas else figures
+
+
+def _results(place, source, rollups, pre, settings, prepared):
+    """The results of a source."""
+    try:
+        found, notes = source.read()
+    except Exception as error:
+        return [Result(place, source, error=error)]
+    results = []
+    for series in found:
+        for rollup in rollups:
+            result = Result(place, source, series.name, rollup, notes=notes)
+            try:
+                figures = run(series.timestamps, series.values, rollup=rollup, pre=pre, **settings)
+            except Exception as error:
+                results.append(replace(result, error=error))
+            else:
+                bare = figures if prepared else replace(figures, remaining=None, prepared=None)
+                results.append(replace(result, figures=bare))
+    return results
+
+
+@dataclass(frozen=True)
+class _Plan:
+    """A run cut into pieces: what was settled, the grid, and where stretches begin and end."""
+
+    settled: Any
+    cuts: list
+
+
+def _plan(series, rollup, pre, settings, pieces, threads):
+    """What `run` refuses is refused; else the run is settled and cut."""
+    read = lent.series(series.timestamps, series.values)
+    settings = Settings(**settings).over(read[0][1])
+    # Lent no slices, a run is refused for these only if its series and settings are accepted.
+    nothing = np.empty(0), np.empty(0), np.empty(0, np.int64), np.empty(0)
+    try:
+        lent.figures(read, rollup, pre, settings, nothing)
+    except Refused as refusal:
+        if refusal.number != 12:
+            raise
+    if rollup.sees_marks and pre != "none":
+        raise Refused(19)
+    times = remaining_times(read[0][1], read[1][1], rollup)
+    settled = settings.settled(lent.settle(times, **asdict(settings)))
+    places, worked = work(times, settled)
+    return _Plan(settled, cut(places, worked, pieces or pays(len(times), worked, threads)))
+
+
+def _piece(series, rollup, pre, settled, whole):
+    """A settled run; its remaining times and prepared values only where they are asked for."""
+    figures = settled_run(series.timestamps, series.values, rollup=rollup, pre=pre, **asdict(settled))
+    samples = len(figures.remaining)
+    if not whole:
+        figures = replace(figures, remaining=None, prepared=None)
+    return figures, samples
+
+
+def _joined(held, plan, rollup, pre):
+    """The pieces of a plan, worked out and joined."""
+    settled, cuts = plan.settled, plan.cuts
+    stretches = list(zip(cuts, cuts[1:]))
+    calls = [
+        (_piece, (rollup, pre, settled.part(begin, end - begin), begin == 0))
+        for begin, end in stretches
+    ]
+    points = cuts[-1]
+    values, scanned, first = np.empty(points), 0, None
+    for place, (figures, samples) in held.answers(calls):
+        begin, end = stretches[place]
+        values[begin:end] = figures.values
+        scanned += figures.count - samples
+        first = figures if begin == 0 else first
+    times = settled.start + settled.step * np.arange(points)
+    return Figures(times, values, samples + scanned, first.remaining, first.prepared)
+
+
+class _Held:
+    """A series where all workers have it: arrays are sent to each, another source is read by each."""
+
+    def __init__(self, client, given):
+        self.client, self.token = client, uuid.uuid4().hex
+        self.arrays = None
+        if isinstance(given, tuple) and all(isinstance(part, np.ndarray) for part in given):
+            self.arrays = Found(None, *given)
+        else:
+            self.source = source_of(given)
+
+    def answers(self, calls):
+        """What the calls give, each with its place, as they come. A call that is lost with its worker is asked
+        again."""
+        left, lost = dict(enumerate(calls)), 0
+        while left:
+            before = len(left)
+            for place, answer in self._round(left):
+                del left[place]
+                yield place, answer
+            lost = lost + 1 if len(left) == before else 0
+            if lost == _LOST:
+                raise RuntimeError(f"the workers were lost {lost} times in a row")
+
+    def _round(self, left):
+        """Asks each of the calls once, and gives the answers of those that were not lost."""
+        series = self._sent() if self.arrays else None
+        ask = self.client.submit
+        futures = {
+            ask(_asked, self.token, series or self.source, *call, pure=False): place
+            for place, call in left.items()
+        }
+        try:
+            for future, answer in as_completed(list(futures), with_results=True, raise_errors=False):
+                if future.status == "error":
+                    raise _error(answer)
+                if future.status == "finished":
+                    yield futures[future], answer
+        finally:
+            self.client.cancel(list(futures))
+
+    def _sent(self):
+        """The arrays on each worker. If all that have them are lost, so are the calls on them."""
+        self.client.wait_for_workers(1)
+        return self.client.scatter([self.arrays], broadcast=True, hash=False)[0]
+
+    def forget(self):
+        """Has the workers let go of what they read."""
+        if not self.arrays:
+            self.client.run(_forget, self.token, on_error="ignore")
+
+
+# The series that a worker has read, by the token of the run, so that it reads it once.
+_read, _reading = {}, threading.Lock()
+
+
+def _asked(token, series, function, arguments):
+    """What a function gives of a series, which is read where it is a source."""
+    if not isinstance(series, Found):
+        with _reading:
+            if token not in _read:
+                found, _ = series.read()
+                if len(found) != 1:
+                    raise ValueError(f"expected one series, found {len(found)}")
+                _read[token] = found[0]
+            series = _read[token]
+    return function(series, *arguments)
+
+
+def _forget(token):
+    _read.pop(token, None)
+
+
+def _error(answer):
+    """The exception of a future that has no result."""
+    return answer[1] if isinstance(answer, tuple) else answer

@@ -1,0 +1,172 @@
+"""What a run is told beside its series: the grid, the window and the limits. All in milliseconds."""
+
+import operator
+from dataclasses import asdict, dataclass, replace
+from datetime import datetime, timedelta, timezone
+
+# The most readings of a series, and the most output times of a grid.
+MOST = 16_777_216
+
+_LEAST_INT, _MOST_INT = -(2**63), 2**63 - 1
+_EPOCH = datetime(1970, 1, 1, tzinfo=timezone.utc)
+_MILLISECOND = timedelta(milliseconds=1)
+
+
+def whole(name, number, least=_LEAST_INT, most=_MOST_INT):
+    """A whole number that fits where the core has it; what the core refuses is left to the core."""
+    if isinstance(number, bool):
+        raise TypeError(f"{name}: expected a whole number, found {number}")
+    try:
+        number = operator.index(number)
+    except TypeError:
+        raise TypeError(f"{name}: expected a whole number, found {type(number).__name__}") from None
+    if not least <= number <= most:
+        raise ValueError(f"{name}: {number} does not fit in 64 bits")
+    return number
+
+
+def time(name, given):
+    """A time in milliseconds, which a datetime with a zone is as well."""
+    if not isinstance(given, datetime):
+        return whole(name, given)
+    if given.utcoffset() is None:
+        raise TypeError(f"{name}: expected a time with its zone, found {given}")
+    return duration(name, given - _EPOCH)
+
+
+def duration(name, given):
+    """A length of time in milliseconds, which a timedelta is as well."""
+    if not isinstance(given, timedelta):
+        return whole(name, given)
+    milliseconds, rest = divmod(given, _MILLISECOND)
+    if rest:
+        raise ValueError(f"{name}: expected whole milliseconds, found {given}")
+    return whole(name, milliseconds)
+
+
+def truth(name, given):
+    """True or False."""
+    if type(given).__name__ not in ("bool", "bool_"):
+        raise TypeError(f"{name}: expected True or False, found {type(given).__name__}")
+    return bool(given)
+
+
+class _Grid:
+    def points(self):
+        """The number of output times; 0 where rows 6, 7 or 11 refuse the grid."""
+        if not (1 <= self.step <= 2**50 and -(2**50) <= self.start <= self.end <= 2**50):
+            return 0
+        points = (self.end - self.start) // self.step + 1
+        return points if points <= MOST else 0
+
+    def part(self, first, points):
+        """The same over so many output times from the one at an index on."""
+        start = self.start + first * self.step
+        return replace(self, start=start, end=start + (points - 1) * self.step)
+
+
+@dataclass(frozen=True)
+class Settings(_Grid):
+    """The settings of a run. 0 leaves a limit out.
+
+    start: the first output time; None stands for the first reading's, moved up to a whole step.
+    end: no output time is past this one; None stands for the last reading's, moved up to a whole step.
+    step: from one output time to the next; None stands for the window.
+    window: a figure at t is of the readings after t - window, up to t. 0 stands for the step.
+    may_adjust_window: raises a window of 0 to the reach, so that it covers two readings.
+    is_default_rollup: caps a window of 0 by the lookback delta.
+    lookback_delta: the longest reach back to a predecessor.
+    min_staleness_interval: the shortest reach; it goes before the lookback delta.
+    max_points_per_series: the most output times.
+    samples_scanned_per_call: what an output time adds to the count; 0 stands for the readings in its
+        window.
+
+    Times may be datetimes with a zone, lengths of time timedeltas.
+    """
+
+    start: int | None = None
+    end: int | None = None
+    step: int | None = None
+    window: int = 0
+    may_adjust_window: bool = False
+    is_default_rollup: bool = False
+    lookback_delta: int = 0
+    min_staleness_interval: int = 0
+    max_points_per_series: int = 0
+    samples_scanned_per_call: int = 0
+
+    def __post_init__(self):
+        for name in ("start", "end"):
+            given = getattr(self, name)
+            self._set(name, None if given is None else time(name, given))
+        for name in ("window", "lookback_delta", "min_staleness_interval"):
+            self._set(name, duration(name, getattr(self, name)))
+        if self.step is None and self.window == 0:
+            raise TypeError("expected a step or a window")
+        self._set("step", self.window if self.step is None else duration("step", self.step))
+        for name in ("may_adjust_window", "is_default_rollup"):
+            self._set(name, truth(name, getattr(self, name)))
+        self._set("max_points_per_series", whole("max_points_per_series", self.max_points_per_series))
+        per_call = whole("samples_scanned_per_call", self.samples_scanned_per_call, 0, 2**64 - 1)
+        self._set("samples_scanned_per_call", per_call)
+
+    def _set(self, name, number):
+        object.__setattr__(self, name, number)
+
+    def over(self, timestamps):
+        """The settings for a series of these times, with a grid of its own where none is given."""
+        if self.start is not None and self.end is not None:
+            return self
+        if len(timestamps) == 0:
+            raise ValueError("expected a reading, or start and end")
+        start = self._moved_up(timestamps[0]) if self.start is None else self.start
+        end = self._moved_up(timestamps[-1]) if self.end is None else self.end
+        return replace(self, start=start, end=end)
+
+    def _moved_up(self, time):
+        step = max(self.step, 1)
+        return min(int(time) + -int(time) % step, _MOST_INT)
+
+    def settled(self, settled):
+        """The same grid with the window and the reach that were settled."""
+        return SettledSettings(
+            self.start, self.end, self.step, settled.window, settled.reach, self.samples_scanned_per_call
+        )
+
+    def numbers(self):
+        """The settings in the order in which the core takes them."""
+        return asdict(self).values()
+
+
+@dataclass(frozen=True)
+class Settled:
+    """What settling gives: the window in force, how far before a window its predecessor may stand, and
+    the number of output times."""
+
+    window: int
+    reach: int
+    points: int
+
+
+@dataclass(frozen=True)
+class SettledSettings(_Grid):
+    """The settings of a settled run: those of a run, with window and reach as `settle` gave them."""
+
+    start: int
+    end: int
+    step: int
+    window: int
+    reach: int
+    samples_scanned_per_call: int = 0
+
+    def __post_init__(self):
+        for name in ("start", "end"):
+            object.__setattr__(self, name, time(name, getattr(self, name)))
+        for name in ("step", "window", "reach"):
+            object.__setattr__(self, name, duration(name, getattr(self, name)))
+        per_call = whole("samples_scanned_per_call", self.samples_scanned_per_call, 0, 2**64 - 1)
+        object.__setattr__(self, "samples_scanned_per_call", per_call)
+
+    def numbers(self):
+        """The settings in the order in which the core takes them."""
+        return asdict(self).values()
