@@ -1,7 +1,7 @@
 """What a run is told beside its series: the grid, the window and the limits. All in milliseconds."""
 
 import operator
-from dataclasses import asdict, dataclass, replace
+from dataclasses import dataclass, replace
 from datetime import datetime, timedelta, timezone
 
 # The most readings of a series, and the most output times of a grid.
@@ -14,7 +14,7 @@ _MILLISECOND = timedelta(milliseconds=1)
 
 def whole(name, number, least=_LEAST_INT, most=_MOST_INT):
     """A whole number that fits where the core has it; what the core refuses is left to the core."""
-    if isinstance(number, bool):
+    if _is_truth(number):
         raise TypeError(f"{name}: expected a whole number, found {number}")
     try:
         number = operator.index(number)
@@ -46,9 +46,13 @@ def duration(name, given):
 
 def truth(name, given):
     """True or False."""
-    if type(given).__name__ not in ("bool", "bool_"):
+    if not _is_truth(given):
         raise TypeError(f"{name}: expected True or False, found {type(given).__name__}")
     return bool(given)
+
+
+def _is_truth(given):
+    return type(given).__name__ in ("bool", "bool_")
 
 
 class _Grid:
@@ -135,7 +139,7 @@ class Settings(_Grid):
 
     def numbers(self):
         """The settings in the order in which the core takes them."""
-        return asdict(self).values()
+        return vars(self).values()
 
 
 @dataclass(frozen=True)
@@ -169,4 +173,4 @@ class SettledSettings(_Grid):
 
     def numbers(self):
         """The settings in the order in which the core takes them."""
-        return asdict(self).values()
+        return vars(self).values()
