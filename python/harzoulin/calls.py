@@ -66,7 +66,8 @@ def crossings(timestamps, values=None, *, limit):
     """The index of each reading that lies on the other side of a limit from the one before it, in order:
     below is less than the limit, above is all else. Of a pandas Series, those readings."""
     if values is None:
-        return timestamps.iloc[crossings(*arrays_of(timestamps), limit=limit)]
+        indexes = crossings(*arrays_of(timestamps), limit=limit)
+        return timestamps.iloc[indexes]
     # Room for a crossing at every reading, so that 16 is not met; the core touches what it writes.
     indexes = np.empty(min(np.size(values), MOST), np.uint64)
     count = lent.crossings(timestamps, values, limit, indexes=indexes)

@@ -25,7 +25,7 @@ READ = {
     "prepare": {**SERIES, "pre": "delta"},
     "run": {**RUN, **GRID},
     "settled_run": {**RUN, **SETTLED_GRID},
-    "crossings": {**SERIES, "limit": 2.0},
+    "crossings": {**SERIES, "limit": 3.5},
     "nearest": {"timestamps": TIMES, "at": 1600},
     "merge": LOGS,
 }
@@ -36,7 +36,7 @@ WRITTEN = {
     "prepare": {"prepared": (np.float64, 4)},
     "run": ROOM,
     "settled_run": ROOM,
-    "crossings": {"indexes": (np.uint64, 1)},
+    "crossings": {"indexes": (np.uint64, 2)},
     "nearest": {},
     "merge": {"timestamps": (np.int64, 6), "values": (np.float64, 6)},
 }
