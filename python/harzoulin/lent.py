@@ -4,7 +4,7 @@ What is written is int64, uint64 or float64 as each function says, contiguous, a
 else of the call. While a call works on arrays, no other thread may write to them.
 """
 
-from ctypes import byref, c_int64, c_uint64
+from ctypes import byref, c_double, c_int64, c_uint64
 
 import numpy as np
 
@@ -69,7 +69,7 @@ def crossings(timestamps, values, limit, *, indexes):
     apart(written, read)
     count, index = c_uint64(), c_uint64()
     places = byref(count), byref(index)
-    number = CORE["crossings"](*_slices(read), float(limit), *_slices(written), *places)
+    number = CORE["crossings"](*_slices(read), c_double(limit), *_slices(written), *places)
     accepted(number, index.value)
     return count.value
 
