@@ -71,7 +71,8 @@ def _one_dimension(name, array):
 
 def _exact(found, kind):
     """Whether each number of a type is one of the kind. A 64-bit integer may be no float64."""
-    return found.kind in "iuf" and np.can_cast(found, kind) and (found.kind == "f" or found.itemsize < 8 or kind.kind == "i")
+    kept = found.kind == kind.kind or found.itemsize < 8
+    return kept and found.kind in "iuf" and np.can_cast(found, kind)
 
 
 def _outside():

@@ -30,7 +30,12 @@ READ = {
     "merge": LOGS,
 }
 # The slices that each call is lent, with their types and how long they have to be for this.
-ROOM = {"output": (np.float64, 11), "prepared": (np.float64, 4), "remaining": (np.int64, 4), "work": (np.float64, 8)}
+ROOM = {
+    "output": (np.float64, 11),
+    "prepared": (np.float64, 4),
+    "remaining": (np.int64, 4),
+    "work": (np.float64, 8),
+}
 WRITTEN = {
     "settle": {},
     "prepare": {"prepared": (np.float64, 4)},

@@ -109,8 +109,8 @@ def _run(words):
     settings, kinds = words.settings(), [words.outcome(), words.outcome()]
     words.word()
     outcomes = {name: kinds[Rollup(name).sees_marks] for name in ROLLUPS}
-    points = {name: 0 if isinstance(outcome, Refused) else outcome[0].points for name, outcome in outcomes.items()}
-    answers = {name: words.floats(points[name]) for name in ROLLUPS}
+    points = [0 if isinstance(kind, Refused) else kind[0].points for kind in kinds]
+    answers = {name: words.floats(points[Rollup(name).sees_marks]) for name in ROLLUPS}
     words.end()
     return Run(pre, parameters, *series, settings, outcomes, answers)
 

@@ -85,12 +85,16 @@ def test_other_layouts_are_converted_with_a_warning(through, call, name, layout)
     array = LAYOUTS[layout](READ[call][name])
     before = array.tobytes()
     answer, warning = converted(lambda: through(call, **{name: array}))
-    assert str(warning.message).startswith(f"{name}: a copy is handed over as contiguous {READ[call][name].dtype}")
+    begins = f"{name}: a copy is handed over as contiguous {READ[call][name].dtype}, since the array is "
+    assert str(warning.message).startswith(begins)
     assert answer == through(call)
     assert array.tobytes() == before
 
 
-NARROWER = {"int64": ["i2", "u2", "i4", "u4", ">i4"], "float64": ["f2", "f4", ">f4", "i1", "u1", "i2", "i4", "u4"]}
+NARROWER = {
+    "int64": ["i2", "u2", "i4", "u4", ">i4"],
+    "float64": ["f2", "f4", ">f4", "i1", "u1", "i2", "u2", "i4", "u4"],
+}
 
 
 def with_types(types):
@@ -206,7 +210,8 @@ def test_what_cannot_be_written_to_as_it_is_is_an_error(call, name, kind):
 def test_the_other_type_of_eight_bytes_is_not_written_to(call, name):
     slices = sevens(call)
     for kind in {np.int64, np.uint64, np.float64} - {slices[name].dtype.type}:
-        with pytest.raises(TypeError, match=f"^{name}: expected {slices[name].dtype}, found {np.dtype(kind)}$"):
+        expected = f"^{name}: expected {slices[name].dtype}, found {np.dtype(kind)}$"
+        with pytest.raises(TypeError, match=expected):
             getattr(lent, call)(**{**READ[call], **slices, name: slices[name].view(kind)})
     assert untouched(slices)
 
@@ -223,9 +228,10 @@ def of_one_block(*arrays):
         first += len(array) - 1
 
 
-@pytest.mark.parametrize(
-    "call, name, read", [(call, name, read) for call, name in WRITTEN_ARRAYS for of, read in READ_ARRAYS if of == call]
-)
+BOTH = [(call, name, read) for call, name in WRITTEN_ARRAYS for of, read in READ_ARRAYS if of == call]
+
+
+@pytest.mark.parametrize("call, name, read", BOTH)
 def test_what_is_written_overlaps_nothing_that_is_read(call, name, read):
     slices = sevens(call)
     both = of_one_block(READ[call][read], slices[name]), of_one_block(slices[name], READ[call][read])

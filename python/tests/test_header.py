@@ -71,7 +71,9 @@ def test_the_loaded_functions_have_these_types():
         assert function.restype is ctypes.c_uint64
 
 
-@pytest.mark.parametrize("call, settings", [("settle", Settings), ("run", Settings), ("settled_run", SettledSettings)])
+@pytest.mark.parametrize(
+    "call, settings", [("settle", Settings), ("run", Settings), ("settled_run", SettledSettings)]
+)
 def test_settings_stand_in_the_order_of_the_header(call, settings):
     declared = [name for _, star, name in parameters()[call] if not star]
     first = declared.index("start")

@@ -170,7 +170,8 @@ def test_merged_series_are_those_of_the_model(first, second, agree):
         values = [known.get(time, value) for time, value in zip(times, values)]
     arrays = *generated.arrays(*first), *generated.arrays(times, values)
     value_at = {time: model.bits(value) for time, value in zip(*first)}
-    conflict = any(value_at.get(time, model.bits(value)) != model.bits(value) for time, value in zip(times, values))
+    words_of_second = zip(times, map(model.bits, values))
+    conflict = any(value_at.get(time, word) != word for time, word in words_of_second)
     assert refusal(harzoulin.merge, *arrays) == ((17, 0) if conflict else None)
     if not conflict:
         merged = harzoulin.merge(*arrays)

@@ -27,7 +27,8 @@ SERIES_ROWS = {
     5: {"values": np.array([1.0, 2.0, math.nan, math.inf])},
 }
 TIMES_ROWS = {number: SERIES_ROWS[number] for number in (3, 4)}
-GRID_ROWS = {6: {"step": 0}, 7: {"start": -OUTSIDE}, 8: {"window": -1}, 9: {"samples_scanned_per_call": 65_536}}
+SPAN_ROWS = {6: {"step": 0}, 7: {"start": -OUTSIDE}}
+GRID_ROWS = {**SPAN_ROWS, 8: {"window": -1}, 9: {"samples_scanned_per_call": 65_536}}
 POINTS_ROW = {10: {"max_points_per_series": 4}}
 LONG_GRID_ROW = {11: {"end": MOST}}
 SLICES_ROWS = {12: {"output": 10}, 13: {"prepared": 3}, 14: {"work": 7}}
@@ -219,7 +220,10 @@ def test_marks_are_refused_by_all_calls_but_the_runs(place):
         through_the_package(call, values=values)
 
 
-@pytest.mark.parametrize("word", [0xFFF0000000000002, 0x7FF8000000000002, 0x7FF0000000000001, 0x7FF0000000000003])
+OTHER_WORDS = [0xFFF0000000000002, 0x7FF8000000000002, 0x7FF0000000000001, 0x7FF0000000000003]
+
+
+@pytest.mark.parametrize("word", OTHER_WORDS)
 def test_every_other_nan_is_refused_by_runs(word):
     values = VALUES.copy()
     values.view(np.uint64)[1:3] = 0x7FF0000000000002, word
@@ -227,7 +231,10 @@ def test_every_other_nan_is_refused_by_runs(word):
         assert offended(call, {"values": values, "rollup": rollup}) == (5, 2, SENTENCES[5])
 
 
-@pytest.mark.parametrize("call, name", [("prepare", "pre"), ("run", "pre"), ("run", "rollup"), ("settled_run", "rollup")])
+NAMED = [("prepare", "pre"), *itertools.product(("run", "settled_run"), ("pre", "rollup"))]
+
+
+@pytest.mark.parametrize("call, name", NAMED)
 def test_a_name_of_no_step_and_of_no_rollup_is_a_value_error_before_the_call(call, name, monkeypatch):
     monkeypatch.setitem(lent.CORE, call, None)
     for through in WAYS:

@@ -122,8 +122,11 @@ def test_a_datetime_is_exact_far_from_1970():
         assert ZERO + timedelta(milliseconds=whole) == at
 
 
+A_TIME = [("run", "start"), ("run", "end"), ("settled_run", "start"), ("nearest", "at")]
+
+
 @each_way
-@pytest.mark.parametrize("call, name", [("run", "start"), ("run", "end"), ("settled_run", "start"), ("nearest", "at")])
+@pytest.mark.parametrize("call, name", A_TIME)
 def test_a_datetime_without_a_zone_is_a_type_error(through, call, name):
     for naive in (datetime(1970, 1, 1), pandas.Timestamp(0)):
         with pytest.raises(TypeError, match=f"^{name}: expected a time with its zone, found 1970-01-01"):
@@ -131,7 +134,7 @@ def test_a_datetime_without_a_zone_is_a_type_error(through, call, name):
 
 
 @each_way
-@pytest.mark.parametrize("call, name", [("run", "start"), ("settled_run", "end"), ("nearest", "at")])
+@pytest.mark.parametrize("call, name", A_TIME)
 def test_a_datetime_with_microseconds_is_a_value_error(through, call, name):
     for rest in (timedelta(microseconds=1), timedelta(microseconds=-1)):
         with pytest.raises(ValueError, match=f"^{name}: expected whole milliseconds, found "):
