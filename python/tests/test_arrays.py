@@ -3,6 +3,7 @@
 import itertools
 import re
 import warnings
+from types import SimpleNamespace
 
 import numpy as np
 import pytest
@@ -324,6 +325,12 @@ def test_a_series_without_readings_is_accepted(through, call, kind, tmp_path):
         assert (answer[0] if through is through_lent else answer) is None
     if call in ("crossings", "merge") and through is through_lent:
         assert answer == (0, [array.tobytes() for array in sevens(call).values()])
+
+
+def test_no_slice_without_entries_has_a_null_pointer():
+    for empty in (np.zeros(0), SimpleNamespace(size=0, __array_interface__={"data": (0, False)})):
+        pointer, length = slices(empty)
+        assert pointer % 8 == 0 and (pointer != 0, length) == (True, 0)
 
 
 def test_slices_without_entries_are_enough_for_no_reading():

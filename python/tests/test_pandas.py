@@ -103,7 +103,7 @@ def test_the_remaining_times_of_a_series_are_an_index_to_settle(rollup):
 def test_crossings_of_a_series_are_its_readings():
     found = harzoulin.crossings(series(), limit=2.5)
     places = harzoulin.crossings(TIMES, VALUES, limit=2.5)
-    assert places.tolist() == [2, 3, 5]
+    assert (places.dtype, places.tolist()) == (np.int64, [2, 3, 5])
     same(found, TIMES[places], VALUES[places])
 
 

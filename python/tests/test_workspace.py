@@ -167,6 +167,17 @@ def test_threads_that_call_the_package_have_memory_of_their_own():
         assert list(threads.map(work, range(THREADS))) == [expected] * THREADS
 
 
+def test_a_thread_lets_go_of_its_own_memory_only():
+    kept = weakref.ref(ask(harzoulin).prepared.base)
+    with ThreadPoolExecutor(1) as thread:
+        other = thread.submit(lambda: weakref.ref(ask(harzoulin).prepared.base)).result()
+        assert other() is not None and other() is not kept()
+        thread.submit(harzoulin.clear).result()
+        assert (kept() is None, other() is None) == (False, True)
+    harzoulin.clear()
+    assert kept() is None
+
+
 def counted_during(call):
     """How far another thread counts while a call works. No thread is made to let go of the interpreter's
     lock meanwhile, so it counts only where the call lets go."""
