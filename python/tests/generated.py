@@ -15,9 +15,11 @@ NEAR_ZERO = st.sampled_from([0.0, -0.0, 5e-324, -5e-324, 2.5e-308, 1e-12])
 HUGE = st.sampled_from([LARGEST_VALUE, -LARGEST_VALUE, 1e308, 1e300, -1e300, 2.0**53])
 # Counters that restart, fall a little, or rise by less than what counts as a change.
 COUNTER = st.sampled_from([0.0, 1.0, 2.0, 2.5, 7.0, 8.0, 79.0, 80.0, 80.00000000000001, 1000.0])
+# Falls by an eighth, by a little less and by a little more.
+FALLING = st.sampled_from([8.0, 7.0, 7.000000000000001, 6.999999999999999, 0.0, 16.0, 14.0])
 ANY = st.floats(allow_nan=False, allow_infinity=False)
 # What the values of a series are drawn from.
-KINDS = [COUNTER, COUNTER | NEAR_ZERO, HUGE | NEAR_ZERO, ANY, ZEROS]
+KINDS = [COUNTER, FALLING, COUNTER | NEAR_ZERO, HUGE | NEAR_ZERO, ANY, ZEROS]
 MARK = st.just(STALE)
 NOT_FINITE = st.sampled_from([math.nan, math.inf, -math.inf, STALE])
 

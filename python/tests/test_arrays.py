@@ -20,7 +20,6 @@ from samples import (
     in_bytes,
     sevens,
     through_lent,
-    through_the_package,
     untouched,
 )
 

@@ -100,7 +100,7 @@ def test_quantiles_of_zeros_keep_their_signs_and_their_order(phi, values, data):
 
 
 @examples(400)
-@given(generated.times(), st.data())
+@given(generated.times(most=24), st.data())
 def test_what_is_settled_is_what_the_model_settles(times, data):
     settings = data.draw(generated.settings(times))
     settled = harzoulin.settle(np.array(times, np.int64), **settings)

@@ -91,7 +91,8 @@ def test_prepared_values_of_a_series_are_those_of_its_arrays(pre):
 def test_the_remaining_times_of_a_series_are_an_index_to_settle(rollup):
     values = VALUES.copy()
     values[[0, 2]] = STALE
-    expected = harzoulin.remaining(TIMES, values, rollup=rollup)
+    expected = TIMES if rollup == "default" else TIMES[[1, 3, 4, 5]]
+    assert harzoulin.remaining(TIMES, values, rollup=rollup).tolist() == expected.tolist()
     found = harzoulin.remaining(series(values=values), rollup=rollup)
     same_index(found, expected)
     settings = {"step": 7, "may_adjust_window": True}

@@ -209,17 +209,22 @@ def test_no_readings_and_no_grid_is_a_value_error(through, call):
 def test_a_step_that_is_refused_is_refused_without_a_grid_as_well(step):
     with pytest.raises(harzoulin.Refused, match="^refusal 6: "):
         harzoulin.run(TIMES, VALUES, rollup="avg", step=step)
-    with pytest.raises(harzoulin.Refused, match="^refusal 3 at reading 0: "):
-        harzoulin.run(np.array([2**63 - 1]), VALUES[:1], rollup="avg", step=step)
+
+
+@pytest.mark.parametrize("step", [1, 1000, 2**62, 0])
+def test_a_time_that_is_refused_is_refused_without_a_grid_as_well(step):
+    for time in (2**63 - 1, 2**63 - 2, -(2**63), 2**50 + 1):
+        with pytest.raises(harzoulin.Refused, match="^refusal 3 at reading 1: "):
+            harzoulin.run(np.array([0, time]), VALUES[:2], rollup="avg", step=step)
 
 
 def test_settings_that_were_settled_run_to_the_same_figures():
-    settings = Settings(window=0, step=1000, may_adjust_window=True).over(TIMES)
+    settings = Settings(step=1000, may_adjust_window=True, samples_scanned_per_call=3).over(TIMES)
     settled = settings.settled(lent.settle(TIMES, **vars(settings)))
     figures = harzoulin.run(TIMES, VALUES, rollup="sum", **vars(settings))
     again = harzoulin.settled_run(TIMES, VALUES, rollup="sum", **vars(settled))
     assert figures.values.tolist() == again.values.tolist() == [1.0, 3.0, 7.0, 10.0]
-    assert figures.count == again.count
+    assert figures.count == again.count == len(TIMES) + 3 * len(figures.times)
 
 
 @each_way

@@ -6,7 +6,7 @@ import stored
 from samples import bits
 
 import harzoulin
-from harzoulin import ROLLUPS, Refused, Rollup, lent
+from harzoulin import ROLLUPS, Refused, lent
 
 
 @pytest.fixture(scope="module")
