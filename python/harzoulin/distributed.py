@@ -12,7 +12,9 @@ whichever worker is there.
 
 import threading
 import uuid
+import warnings
 from dataclasses import asdict, dataclass, replace
+from functools import partial
 from itertools import islice
 from typing import Any
 
@@ -20,13 +22,14 @@ import numpy as np
 from distributed import as_completed
 
 from . import lent
+from .arrays import Converted
 from .calls import run, settled_run
 from .marks import remaining_times
 from .names import Rollup, step_number
 from .pandas_series import arrays_of
 from .refusal import Refused
-from .settings import Settings
-from .sources import Found, Made, source_of
+from .settings import Settings, whole
+from .sources import Found, source_of
 from .stretches import cut, pays, work
 from .workspace import Figures
 
@@ -77,12 +80,14 @@ def run_many(client, sources, *, rollup, pre="none", prepared=False, ahead=None,
     ahead = ahead or max(2 * sum(client.nthreads().values()), 1)
     under_way = {}
 
+    done = as_completed(with_results=True, raise_errors=False)
+
     def submit(count):
         for place, source in islice(waiting, count):
-            under_way[client.submit(_results, place, source, *asked, pure=False)] = place, source
-            done.add(next(reversed(under_way)))
+            future = client.submit(_results, place, source, *asked, pure=False)
+            under_way[future] = place, source
+            done.add(future)
 
-    done = as_completed(with_results=True, raise_errors=False)
     try:
         submit(ahead)
         for future, answer in done:
@@ -111,14 +116,17 @@ def run_one(client, series, *, rollup, pre="none", pieces=None, **settings):
     each output time at the most; without it up to four for each thread, as far as that pays: a piece begins
     with a pass over the whole series. The settings are those of `Settings`. A refusal is raised.
     """
+    if pieces is not None and whole("pieces", pieces) < 1:
+        raise ValueError(f"pieces: expected 1 or more, found {pieces}")
+    rollup, asked = Rollup.of(rollup), asdict(Settings(**settings))
+    step_number(pre)
     is_pandas = type(series).__module__.partition(".")[0] == "pandas"
-    given = arrays_of(series) if is_pandas else series
-    held = _Held(client, given)
+    held = _Held(client, arrays_of(series) if is_pandas else series)
     try:
-        asked = Rollup.of(rollup), pre, asdict(Settings(**settings))
         threads = max(sum(client.nthreads().values()), 1)
-        ((_, plan),) = held.answers([(_plan, (*asked, pieces, threads))])
-        figures = _joined(held, plan, *asked[:2])
+        plan = partial(_plan, rollup=rollup, pre=pre, settings=asked, pieces=pieces, threads=threads)
+        ((_, plan),) = held.answers([plan])
+        figures = _joined(held, plan, rollup, pre)
     finally:
         held.forget()
     return figures.as_pandas(series.name) if is_pandas else figures
@@ -171,11 +179,12 @@ def _plan(series, rollup, pre, settings, pieces, threads):
     return _Plan(settled, cut(places, worked, pieces or pays(len(times), worked, threads)))
 
 
-def _piece(series, rollup, pre, settled, whole):
-    """A settled run; its remaining times and prepared values only where they are asked for."""
+def _piece(series, rollup, pre, settled, first):
+    """A settled run, and how many readings it goes by. The remaining times and the prepared values are the same
+    in all pieces; the first one gives them."""
     figures = settled_run(series.timestamps, series.values, rollup=rollup, pre=pre, **asdict(settled))
     samples = len(figures.remaining)
-    if not whole:
+    if not first:
         figures = replace(figures, remaining=None, prepared=None)
     return figures, samples
 
@@ -184,10 +193,9 @@ def _joined(held, plan, rollup, pre):
     """The pieces of a plan, worked out and joined."""
     settled, cuts = plan.settled, plan.cuts
     stretches = list(zip(cuts, cuts[1:]))
-    calls = [
-        (_piece, (rollup, pre, settled.part(begin, end - begin), begin == 0))
-        for begin, end in stretches
-    ]
+    parts = (settled.part(begin, end - begin) for begin, end in stretches)
+    piece = partial(_piece, rollup=rollup, pre=pre)
+    calls = [partial(piece, settled=part, first=place == 0) for place, part in enumerate(parts)]
     points = cuts[-1]
     values, scanned, first = np.empty(points), 0, None
     for place, (figures, samples) in held.answers(calls):
@@ -206,7 +214,7 @@ class _Held:
         self.client, self.token = client, uuid.uuid4().hex
         self.arrays = None
         if isinstance(given, tuple) and all(isinstance(part, np.ndarray) for part in given):
-            self.arrays = Found(None, *given)
+            self.arrays = Found(None, *(array for _, array in lent.series(*given)))
         else:
             self.source = source_of(given)
 
@@ -224,21 +232,21 @@ class _Held:
                 raise RuntimeError(f"the workers were lost {lost} times in a row")
 
     def _round(self, left):
-        """Asks each of the calls once, and gives the answers of those that were not lost."""
-        series = self._sent() if self.arrays else None
-        ask = self.client.submit
-        futures = {
-            ask(_asked, self.token, series or self.source, *call, pure=False): place
-            for place, call in left.items()
-        }
+        """Asks each of the calls once, and gives the answers of those that were not lost: a call that hangs on
+        arrays which no worker has any more is cancelled."""
+        series = self._sent() if self.arrays else self.source
+        calls = list(left.values())
+        futures = self.client.map(_asked, calls, token=self.token, series=series, pure=False)
+        places = dict(zip(futures, left))
         try:
-            for future, answer in as_completed(list(futures), with_results=True, raise_errors=False):
-                if future.status == "error":
+            for future, answer in as_completed(futures, with_results=True, raise_errors=False):
+                place = places.pop(future)
+                if future.status == "error" or isinstance(answer, Exception) and future.status == "finished":
                     raise _error(answer)
                 if future.status == "finished":
-                    yield futures[future], answer
+                    yield place, answer
         finally:
-            self.client.cancel(list(futures))
+            self.client.cancel(list(places))
 
     def _sent(self):
         """The arrays on each worker. If all that have them are lost, so are the calls on them."""
@@ -247,29 +255,41 @@ class _Held:
 
     def forget(self):
         """Has the workers let go of what they read."""
-        if not self.arrays:
-            self.client.run(_forget, self.token, on_error="ignore")
+        self.client.run(_forget, self.token, on_error="ignore")
 
 
-# The series that a worker has read, by the token of the run, so that it reads it once.
-_read, _reading = {}, threading.Lock()
+# The series that a worker has at hand, by the token of the run, so that it is read or copied once.
+_at_hand, _reading = {}, threading.Lock()
 
 
-def _asked(token, series, function, arguments):
-    """What a function gives of a series, which is read where it is a source."""
-    if not isinstance(series, Found):
+def _asked(call, token, series):
+    """What a call gives of a series, or its error: a refusal is no failure of a worker."""
+    try:
         with _reading:
-            if token not in _read:
-                found, _ = series.read()
-                if len(found) != 1:
-                    raise ValueError(f"expected one series, found {len(found)}")
-                _read[token] = found[0]
-            series = _read[token]
-    return function(series, *arguments)
+            if token not in _at_hand:
+                _at_hand[token] = _ready(series)
+            series = _at_hand[token]
+        return call(series)
+    except Exception as error:
+        return error
+
+
+def _ready(series):
+    """A series as the core reads it. Arrays that were sent may have come to lie unaligned."""
+    if not isinstance(series, Found):
+        found, _ = series.read()
+        if len(found) != 1:
+            raise ValueError(f"expected one series, found {len(found)}")
+        series = found[0]
+    if series.values is None:
+        series = Found(None, *arrays_of(series.timestamps))
+    with warnings.catch_warnings():
+        warnings.simplefilter("ignore", Converted)
+        return Found(None, *(array for _, array in lent.series(series.timestamps, series.values)))
 
 
 def _forget(token):
-    _read.pop(token, None)
+    _at_hand.pop(token, None)
 
 
 def _error(answer):

@@ -1,0 +1,299 @@
+"""Figures of a folder of series into a folder of figures: the script python/archive.
+
+A series is a CSV, or a pair NAME.times.npy and NAME.values.npy. What becomes of a source stands in NAME.json,
+and each list of figures in a .npy beside it. NAME.json is written last and names the files that it was made
+from with their sizes and times of change, so that what is there whole is known and not made again.
+"""
+
+import argparse
+import json
+import os
+import re
+import shutil
+import sys
+import tempfile
+import time
+from datetime import datetime, timezone
+from functools import partial
+from itertools import groupby
+from operator import attrgetter
+from pathlib import Path
+from types import NoneType
+from urllib.parse import quote
+
+import numpy as np
+from distributed import Client, LocalCluster
+
+from .distributed import run_many
+from .names import STEPS, Rollup
+from .refusal import Refused
+from .settings import Settings
+from .settings import time as milliseconds_of
+from .sources import Csv, Npy
+
+_UNITS = {"w": 604_800_000, "d": 86_400_000, "h": 3_600_000, "m": 60_000, "s": 1000, "ms": 1}
+
+
+def duration(text):
+    """The milliseconds of a duration such as 1d, 1h30m or 250ms."""
+    parts = re.findall(r"(\d+)(ms|[wdhms])", text)
+    if not parts or "".join(map("".join, parts)) != text:
+        raise argparse.ArgumentTypeError(f"expected a duration, such as 1d or 1h30m, found {text!r}")
+    return sum(int(number) * _UNITS[unit] for number, unit in parts)
+
+
+def moment(text):
+    """The milliseconds of a time: milliseconds, a date, or as 2026-01-31T12:00:00Z."""
+    if re.fullmatch(r"[-+]?\d+", text):
+        return int(text)
+    try:
+        given = datetime.fromisoformat(text)
+    except ValueError:
+        given = None
+    if given is None or given.tzinfo is None and len(text) != 10:
+        raise argparse.ArgumentTypeError(
+            f"expected milliseconds, a date, or a time as 2026-01-31T12:00:00Z, found {text!r}"
+        )
+    return milliseconds_of("time", given if given.tzinfo else given.replace(tzinfo=timezone.utc))
+
+
+def rollup(text):
+    """A rollup from its text."""
+    try:
+        return Rollup.of(text)
+    except ValueError as error:
+        raise argparse.ArgumentTypeError(str(error).removeprefix("rollup: ")) from None
+
+
+def arguments(words):
+    """What the command line asks for."""
+    parser = argparse.ArgumentParser(
+        prog="python/archive",
+        description="Figures of each series of a folder: a .csv, or a pair NAME.times.npy and NAME.values.npy. "
+        "What is there whole is not made again, so that a run that was ended goes on where it was.",
+        epilog="The exit status is 0, 1 where a series was refused or could not be read, 2 for bad usage.",
+    )
+    add = parser.add_argument
+    add("series", type=Path, metavar="SERIES", help="the folder of series")
+    add("figures", type=Path, metavar="FIGURES", help="the folder of figures, made if need be")
+    add("--rollup", type=rollup, action="append", required=True, help="such as avg or 'quantile(0.9)'; may be repeated")
+    add("--pre", choices=STEPS, default="none", help="prepares the values [none]")
+    add("--step", type=duration, help="from one output time to the next, such as 1d [the window]")
+    add("--window", type=duration, default=0, help="the length of a window [the step]")
+    add("--start", type=moment, help="the first output time [the first reading, moved up to a whole step]")
+    add("--end", type=moment, help="the last output time [the last reading, moved up to a whole step]")
+    add("--lookback", type=duration, default=0, dest="lookback_delta", help="the longest reach back")
+    add("--staleness", type=duration, default=0, dest="min_staleness_interval", help="the shortest reach back")
+    add("--adjust-window", action="store_true", dest="may_adjust_window", help="raises the window to the reach")
+    add("--default-rollup", action="store_true", dest="is_default_rollup", help="caps the window by the lookback")
+    for column in ("time", "value", "name"):
+        add(f"--{column}-column", help=f"the name of the column of {column}s in CSV")
+    add("--workers", type=int, default=os.cpu_count(), help="processes on this machine [its processors]")
+    add("--scheduler", metavar="ADDRESS", help="a Dask scheduler whose workers see both folders by these paths")
+    given = parser.parse_args(words)
+    if given.step is None and given.window == 0:
+        parser.error("expected --step or --window")
+    if not given.series.is_dir():
+        parser.error(f"{given.series} is no folder")
+    if given.figures.exists() and given.figures.samefile(given.series):
+        parser.error("series and figures have a folder each")
+    return given
+
+
+def sources(folder, columns):
+    """The sources of a folder by their names, and what is wrong with others."""
+    found, wrong = {}, []
+    for path in sorted(folder.resolve().iterdir()):
+        if path.suffix == ".csv":
+            name, source = path.stem, Csv(str(path), **columns)
+        elif path.name.endswith(".times.npy"):
+            name = path.name.removesuffix(".times.npy")
+            values = path.with_name(f"{name}.values.npy")
+            if not values.exists():
+                wrong.append(f"{path.name}: expected {values.name} beside it")
+                continue
+            source = Npy(str(path), str(values))
+        else:
+            continue
+        if name in found:
+            wrong.append(f"{path.name}: there is another source of that name")
+        found.setdefault(name, source)
+    return found, wrong
+
+
+def state(source):
+    """The files of a source with their sizes and the times of their last change."""
+    paths = [source.path] if isinstance(source, Csv) else [source.timestamps, source.values]
+    try:
+        stats = [(path, os.stat(path)) for path in paths]
+    except OSError:
+        return {}
+    return {os.path.basename(path): [stat.st_size, stat.st_mtime_ns] for path, stat in stats}
+
+
+class Figures:
+    """The folder of figures."""
+
+    def __init__(self, folder):
+        self.folder = folder
+        folder.mkdir(parents=True, exist_ok=True)
+        for left in folder.rglob(".*.part"):
+            left.unlink()
+
+    def holds(self, asked):
+        """Notes what is asked for; False where the folder holds what was asked for otherwise."""
+        path = self.folder / ".asked"
+        if not path.exists():
+            self.write(path, asked)
+        return json.loads(path.read_bytes()) == asked
+
+    def whole(self, name, source):
+        """What became of a source, where that is there whole and made from the files as they are now."""
+        try:
+            became = json.loads((self.folder / f"{name}.json").read_bytes())
+            sizes = {each["file"]: each["bytes"] for each in became["series"] if "file" in each}
+            there = all((self.folder / file).stat().st_size == size for file, size in sizes.items())
+            return became if there and became["made_from"] == state(source) else None
+        except (OSError, ValueError, KeyError):
+            return None
+
+    def put(self, name, made_from, results):
+        """Writes what became of a source."""
+        series = [self.entry(name, result) for result in results]
+        became = {"made_from": made_from, "notes": list(results[0].notes), "series": series}
+        self.write(self.folder / f"{name}.json", became)
+        return became
+
+    def entry(self, name, result):
+        """Writes the figures of a result, and says what stands there, or why nothing does."""
+        entry = {"name": result.name, "rollup": str(result.rollup)}
+        if result.error:
+            number, index, sentence = result.error.args
+            return entry | {"refused": number, "index": index, "sentence": sentence}
+        figures = result.figures
+        title = name if result.name is None else f"{name}/{quote(result.name, safe=' ')}"
+        file = f"{title}.{result.rollup}.npy"
+        size = self.write(self.folder / file, figures.values)
+        start, points = int(figures.times[0]), len(figures.times)
+        return entry | {"file": file, "bytes": size, "start": start, "points": points, "count": figures.count}
+
+    def write(self, path, content):
+        """Writes a file whole or not at all, and gives its size."""
+        path.parent.mkdir(exist_ok=True)
+        part = path.with_name(f".{path.name}.part")
+        with open(part, "wb") as file:
+            if isinstance(content, np.ndarray):
+                np.save(file, content)
+            else:
+                file.write(json.dumps(content, indent=1).encode())
+            file.flush()
+            os.fsync(file.fileno())
+            size = file.tell()
+        os.replace(part, path)
+        return size
+
+
+class Progress:
+    """A bar on a terminal, and at the end a line of what was done."""
+
+    def __init__(self, there, left):
+        self.there, self.left, self.begin = len(there), len(left), time.monotonic()
+        self.made = self.failed = 0
+        self.refused = sum(map(refused, there.values()))
+
+    def show(self):
+        """Draws the bar."""
+        done, total = self.there + self.made + self.failed, self.there + self.left
+        if not (sys.stderr.isatty() and total):
+            return
+        width = min(30, shutil.get_terminal_size().columns // 3)
+        bar = ("=" * (width * done // total)).ljust(width)
+        now = self.made + self.failed
+        rest = (time.monotonic() - self.begin) / now * (self.left - now) if now else 0
+        text = f"[{bar}] {done:,} of {total:,} sources, {self.refused:,} figures refused, {rest:,.0f} s left"
+        print(f"\r{text}\033[K", end="", file=sys.stderr, flush=True)
+
+    def fail(self, text):
+        """A source that cannot be read, or whose figures cannot be written."""
+        self.failed += 1
+        clear = "\r\033[K" if sys.stderr.isatty() else ""
+        print(f"{clear}{text}", file=sys.stderr, flush=True)
+
+    def make(self, became):
+        """A source whose figures are there now."""
+        self.made += 1
+        self.refused += refused(became)
+
+    def end(self):
+        """The last line, and the exit status."""
+        clear = "\r\033[K" if sys.stderr.isatty() else ""
+        parts = f"{self.made:,} sources made", f"{self.there:,} there already", f"{self.failed:,} failed"
+        print(f"{clear}{', '.join(parts)}; {self.refused:,} figures refused", file=sys.stderr)
+        return 1 if self.refused or self.failed else 0
+
+
+def refused(became):
+    """How many figures of a source are refused."""
+    return sum("refused" in each for each in became["series"])
+
+
+def make(given, client):
+    """Makes what is not there, and gives the exit status."""
+    columns = {f"{kind}_column": getattr(given, f"{kind}_column") for kind in ("time", "value", "name")}
+    found, wrong = sources(given.series, columns)
+    names = Settings.__dataclass_fields__
+    settings = {name: value for name, value in vars(given).items() if name in names}
+    asked = {"rollups": list(map(str, given.rollup)), "pre": given.pre, **settings, **columns}
+    folder = Figures(given.figures)
+    if not folder.holds(asked):
+        text = "holds figures that were asked for otherwise, as its file .asked says"
+        print(f"python/archive: {given.figures} {text}", file=sys.stderr)
+        return 2
+    there = {name: became for name, source in found.items() if (became := folder.whole(name, source))}
+    left = {name: source for name, source in found.items() if name not in there}
+    progress = Progress(there, left)
+    for line in wrong:
+        progress.fail(line)
+    progress.show()
+    run = partial(run_many, client, rollup=given.rollup, pre=given.pre, **settings)
+    for name, made_from, results in by_source(run, left):
+        errors = [result.error for result in results if not isinstance(result.error, (Refused, NoneType))]
+        try:
+            if errors:
+                raise errors[0]
+            progress.make(folder.put(name, made_from, results))
+        except Exception as error:
+            progress.fail(f"{name}: {error}")
+        progress.show()
+    return progress.end()
+
+
+def by_source(run, left):
+    """The results of each source with its name and its files as they were before it was read."""
+    states, names = {}, list(left)
+
+    def begun():
+        for name, source in left.items():
+            states[name] = state(source)
+            yield source
+
+    for place, results in groupby(run(begun()), attrgetter("place")):
+        yield names[place], states[names[place]], list(results)
+
+
+def main(words):
+    """The script."""
+    given = arguments(words)
+    if given.scheduler:
+        with Client(given.scheduler) as client:
+            return make(given, client)
+    with tempfile.TemporaryDirectory(prefix="harzoulin-") as folder:
+        cluster = LocalCluster(
+            n_workers=given.workers, threads_per_worker=1, dashboard_address=":0", local_directory=folder
+        )
+        with cluster, Client(cluster) as client:
+            return make(given, client)
+
+
+if __name__ == "__main__":
+    sys.exit(main(sys.argv[1:]))
