@@ -35,6 +35,9 @@ from .workspace import Figures
 
 __all__ = ["Result", "run_many", "run_one"]
 
+# How many sources are under way for each thread: enough that none waits for the next one.
+_AHEAD = 8
+
 # How often in a row all pieces that are left may be lost with their workers.
 _LOST = 5
 
@@ -70,34 +73,47 @@ def run_many(client, sources, *, rollup, pre="none", prepared=False, ahead=None,
     start and end each series has a grid of its own. A series that is refused, or cannot be read, is a
     result. With `prepared` the figures have remaining times and prepared values as well.
 
-    So many sources are under way at a time: `ahead`, or two for each thread that the cluster has now. The
+    So many sources are under way at a time: `ahead`, or eight for each thread that the cluster has now. The
     others are taken as results are.
     """
     rollups = [Rollup.of(each) for each in (rollup if isinstance(rollup, list) else [rollup])]
     step_number(pre)
-    asked = rollups, pre, asdict(Settings(**settings)), prepared
+    task = partial(_results, rollups, pre, asdict(Settings(**settings)), prepared)
     waiting = enumerate(map(source_of, sources))
-    ahead = ahead or max(2 * sum(client.nthreads().values()), 1)
-    under_way = {}
-
-    done = as_completed(with_results=True, raise_errors=False)
+    under_way, done = {}, as_completed()
 
     def submit(count):
-        for place, source in islice(waiting, count):
-            future = client.submit(_results, place, source, *asked, pure=False)
-            under_way[future] = place, source
-            done.add(future)
+        taken = list(islice(waiting, count))
+        futures = client.map(task, taken, pure=False) if taken else []
+        under_way.update(zip(futures, taken))
+        done.update(futures)
 
     try:
-        submit(ahead)
-        for future, answer in done:
-            place, source = under_way.pop(future)
-            if future.status != "finished":
-                answer = [Result(place, source, error=_error(answer))]
-            submit(1)
-            yield from answer
+        submit(ahead or _AHEAD * max(sum(client.nthreads().values()), 1))
+        for batch in done.batches():
+            answers = _gathered(client, batch)
+            taken = [under_way.pop(future) for future in batch]
+            submit(len(batch))
+            for (place, source), answer in zip(taken, answers):
+                yield from [Result(place, source, error=answer)] if isinstance(answer, Exception) else answer
     finally:
         client.cancel(list(under_way))
+
+
+def _gathered(client, batch):
+    """The results of futures: in one message, or one by one where some have failed."""
+    try:
+        return client.gather(batch)
+    except Exception:
+        return [_result(future) for future in batch]
+
+
+def _result(future):
+    """The result of a future, or its error."""
+    try:
+        return future.result()
+    except Exception as error:
+        return error
 
 
 def run_one(client, series, *, rollup, pre="none", pieces=None, **settings):
@@ -132,8 +148,9 @@ def run_one(client, series, *, rollup, pre="none", pieces=None, **settings):
     return figures.as_pandas(series.name) if is_pandas else figures
 
 
-def _results(place, source, rollups, pre, settings, prepared):
+def _results(rollups, pre, settings, prepared, placed):
     """The results of a source."""
+    place, source = placed
     try:
         found, notes = source.read()
     except Exception as error:

@@ -130,7 +130,7 @@ def test_results_come_as_they_are_worked_out_and_sources_are_taken_as_they_are_n
     results = run_many(client, sources(), ahead=3, **ASKED)
     for count in range(1, 11):
         next(results)
-        assert len(taken) <= count + 3
+        assert len(taken) <= count + 2 * 3
     results.close()
     assert len(taken) < 20
 
