@@ -4,7 +4,9 @@ The core trusts a caller with three things (include/harzoulin.h): a slice is as 
 says, no pointer is null, and what is written overlaps nothing else. They are seen to here.
 """
 
+import sys
 import warnings
+from typing import NamedTuple
 
 import numpy as np
 
@@ -14,6 +16,24 @@ _NOTHING = np.zeros(1)
 
 class Converted(UserWarning):
     """An array could not be handed over as it is: a converted copy of it was."""
+
+
+class Handed(NamedTuple):
+    """An array of a call: its name, the array as it was handed in, and the one that the core is handed."""
+
+    name: str
+    given: np.ndarray
+    array: np.ndarray
+
+
+def to_read(name, array, kind):
+    """An array that the core reads, or a copy of it."""
+    return Handed(name, array, readable(name, array, kind))
+
+
+def to_write(name, array, kind):
+    """An array that the core writes."""
+    return Handed(name, array, writable(name, array, kind))
 
 
 def readable(name, array, kind):
@@ -45,17 +65,16 @@ def writable(name, array, kind):
 
 
 def apart(written, read):
-    """An error where an array that is written shares memory with another one. Both are lists of names
-    and contiguous arrays, whose memory is what lies between their bounds."""
-    for place, (name, array) in enumerate(written):
-        for other, against in [*written[place + 1 :], *read]:
-            if np.may_share_memory(array, against):
-                raise ValueError(f"{name} overlaps {other}: what is written stands by itself")
+    """An error where an array that is written shares memory with another one, as they were handed in."""
+    for place, one in enumerate(written):
+        for other in [*written[place + 1 :], *read]:
+            if np.shares_memory(one.given, other.given):
+                raise ValueError(f"{one.name} overlaps {other.name}: what is written stands by itself")
 
 
-def slices(*arrays):
+def slices(handed):
     """Pointer and length of each array, one after the other."""
-    for array in arrays:
+    for _, _, array in handed:
         yield (array if array.size else _NOTHING).__array_interface__["data"][0]
         yield array.size
 
@@ -77,8 +96,6 @@ def _exact(found, kind):
 
 def _outside():
     """How many frames up the first one stands that is not of this package."""
-    import sys
-
     depth, frame = 1, sys._getframe(1)
     while frame and frame.f_globals.get("__name__", "").startswith(__package__ + "."):
         depth, frame = depth + 1, frame.f_back

@@ -42,7 +42,7 @@ _AHEAD = 8
 _LOST = 5
 
 
-@dataclass(frozen=True)
+@dataclass(frozen=True, eq=False)
 class Result:
     """What became of one series and one rollup.
 
@@ -180,7 +180,7 @@ class _Plan:
 def _plan(series, rollup, pre, settings, pieces, threads):
     """What `run` refuses is refused; else the run is settled and cut."""
     read = lent.series(series.timestamps, series.values)
-    settings = Settings(**settings).over(read[0][1])
+    settings = Settings(**settings).over(read[0].array)
     # Lent no slices, a run is refused for these only if its series and settings are accepted.
     nothing = np.empty(0), np.empty(0), np.empty(0, np.int64), np.empty(0)
     try:
@@ -190,7 +190,7 @@ def _plan(series, rollup, pre, settings, pieces, threads):
             raise
     if rollup.sees_marks and pre != "none":
         raise Refused(19)
-    times = remaining_times(read[0][1], read[1][1], rollup)
+    times = remaining_times(read[0].array, read[1].array, rollup)
     settled = settings.settled(lent.settle(times, **asdict(settings)))
     places, worked = work(times, settled)
     return _Plan(settled, cut(places, worked, pieces or pays(len(times), worked, threads)))
@@ -231,7 +231,7 @@ class _Held:
         self.client, self.token = client, uuid.uuid4().hex
         self.arrays = None
         if isinstance(given, tuple) and all(isinstance(part, np.ndarray) for part in given):
-            self.arrays = Found(None, *(array for _, array in lent.series(*given)))
+            self.arrays = Found(None, *(each.array for each in lent.series(*given)))
         else:
             self.source = source_of(given)
 
@@ -302,7 +302,7 @@ def _ready(series):
         series = Found(None, *arrays_of(series.timestamps))
     with warnings.catch_warnings():
         warnings.simplefilter("ignore", Converted)
-        return Found(None, *(array for _, array in lent.series(series.timestamps, series.values)))
+        return Found(None, *(each.array for each in lent.series(series.timestamps, series.values)))
 
 
 def _forget(token):

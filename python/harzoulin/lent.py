@@ -8,7 +8,7 @@ from ctypes import byref, c_double, c_int64, c_uint64
 
 import numpy as np
 
-from .arrays import apart, readable, slices, writable
+from .arrays import apart, slices, to_read, to_write
 from .exported import CORE
 from .names import Rollup, step_number
 from .refusal import accepted, accepted_merge
@@ -18,11 +18,11 @@ from .settings import Settings, Settled, SettledSettings, time
 def settle(timestamps, **settings):
     """Window, reach and number of output times of a run on these times. It sees no values: where some are
     marks, it is handed the times that `remaining` gives. The settings are those of `Settings`."""
-    times = readable("timestamps", timestamps, np.int64)
-    settings = Settings(**settings).over(times)
+    read = [to_read("timestamps", timestamps, np.int64)]
+    settings = Settings(**settings).over(read[0].array)
     window, reach, points, index = c_int64(), c_int64(), c_uint64(), c_uint64()
     places = map(byref, (window, reach, points, index))
-    number = CORE["settle"](*slices(times), *settings.numbers(), *places)
+    number = CORE["settle"](*slices(read), *settings.numbers(), *places)
     accepted(number, index.value)
     return Settled(window.value, reach.value, points.value)
 
@@ -30,11 +30,11 @@ def settle(timestamps, **settings):
 def prepare(timestamps, values, *, pre, prepared):
     """Writes the values after a preparing step to the first entries of `prepared` (float64)."""
     read = series(timestamps, values)
-    written = [("prepared", writable("prepared", prepared, np.float64))]
+    written = [to_write("prepared", prepared, np.float64)]
     apart(written, read)
     index = c_uint64()
     number = CORE["prepare"](
-        *_slices(read), step_number(pre), *_slices(written), byref(index)
+        *slices(read), step_number(pre), *slices(written), byref(index)
     )
     accepted(number, index.value)
 
@@ -48,7 +48,7 @@ def run(timestamps, values, *, rollup, pre="none", output, prepared, remaining, 
     `Settings`.
     """
     read = series(timestamps, values)
-    settings = Settings(**settings).over(read[0][1])
+    settings = Settings(**settings).over(read[0].array)
     return figures(read, rollup, pre, settings, (output, prepared, remaining, work))
 
 
@@ -65,11 +65,11 @@ def crossings(timestamps, values, limit, *, indexes):
     """Writes the index of each reading that lies on the other side of a limit from the one before it to the
     first entries of `indexes` (uint64) and gives how many there are."""
     read = series(timestamps, values)
-    written = [("indexes", writable("indexes", indexes, np.uint64))]
+    written = [to_write("indexes", indexes, np.uint64)]
     apart(written, read)
     count, index = c_uint64(), c_uint64()
     places = byref(count), byref(index)
-    number = CORE["crossings"](*_slices(read), c_double(limit), *_slices(written), *places)
+    number = CORE["crossings"](*slices(read), c_double(limit), *slices(written), *places)
     accepted(number, index.value)
     return count.value
 
@@ -77,10 +77,10 @@ def crossings(timestamps, values, limit, *, indexes):
 def nearest(timestamps, at):
     """The index of the reading that is nearest to a time, the lower one of two that are as near; None
     only for a series without readings. Refusal 3 with index 0 may also be of the time `at`."""
-    times = readable("timestamps", timestamps, np.int64)
+    read = [to_read("timestamps", timestamps, np.int64)]
     found, place, index = c_uint64(), c_uint64(), c_uint64()
     places = map(byref, (found, place, index))
-    number = CORE["nearest"](*slices(times), time("at", at), *places)
+    number = CORE["nearest"](*slices(read), time("at", at), *places)
     accepted(number, index.value)
     return place.value if found.value else None
 
@@ -93,41 +93,36 @@ def merge(
     first = series(first_timestamps, first_values, "first_")
     read = first + series(second_timestamps, second_values, "second_")
     written = [
-        ("timestamps", writable("timestamps", timestamps, np.int64)),
-        ("values", writable("values", values, np.float64)),
+        to_write("timestamps", timestamps, np.int64),
+        to_write("values", values, np.float64),
     ]
     apart(written, read)
     length, index = c_uint64(), c_uint64()
     places = byref(length), byref(index)
-    number = CORE["merge"](*_slices(read), *_slices(written), *places)
+    number = CORE["merge"](*slices(read), *slices(written), *places)
     accepted_merge(number, index.value)
     return length.value
 
 
 def series(timestamps, values, prefix=""):
-    """The two arrays of a series with their names."""
-    names = f"{prefix}timestamps", f"{prefix}values"
-    times = readable(names[0], timestamps, np.int64)
-    return [(names[0], times), (names[1], readable(names[1], values, np.float64))]
+    """The two arrays of a series."""
+    times = to_read(f"{prefix}timestamps", timestamps, np.int64)
+    return [times, to_read(f"{prefix}values", values, np.float64)]
 
 
 def figures(read, rollup, pre, settings, lent):
     """A run or, of settled settings, a settled run. Gives the count."""
     kinds = np.float64, np.float64, np.int64, np.float64
     names = "output", "prepared", "remaining", "work"
-    written = [(name, writable(name, *given)) for name, given in zip(names, zip(lent, kinds))]
+    written = list(map(to_write, names, lent, kinds))
     apart(written, read)
-    rollup = Rollup.of(rollup)
-    choices = step_number(pre), rollup.number, rollup.first, rollup.second
+    choices = step_number(pre), *Rollup.of(rollup).choice
     count, index = c_uint64(), c_uint64()
     places = byref(count), byref(index)
     call = CORE["run" if isinstance(settings, Settings) else "settled_run"]
     number = call(
-        *_slices(read), *choices, *settings.numbers(), *_slices(written), *places
+        *slices(read), *choices, *settings.numbers(), *slices(written), *places
     )
     accepted(number, index.value)
     return count.value
 
-
-def _slices(named):
-    return slices(*(array for _, array in named))

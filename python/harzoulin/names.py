@@ -1,7 +1,8 @@
 """Preparing steps and rollups by their names, in the order of the numbers that the core knows them by."""
 
 import re
-from typing import NamedTuple
+from dataclasses import dataclass
+from numbers import Real
 
 STEPS = ("none", "resets", "delta", "deriv", "intervals", "resets_once")
 
@@ -22,7 +23,10 @@ PARAMETERS = {
     "holt_winters": ("smoothing", "trend"),
 }
 
-_CALLED = re.compile(r"\s*(\w+)\s*(?:\((.*)\)\s*)?", re.ASCII)
+# The rollups that see staleness marks.
+SEE_MARKS = ("default", "stale_samples")
+
+_CALLED = re.compile(r"\s*(\w+)\s*(?:\((.+)\)\s*)?", re.ASCII)
 
 
 def step_number(name):
@@ -34,12 +38,23 @@ def step_number(name):
     return STEPS.index(name)
 
 
-class Rollup(NamedTuple):
-    """A rollup with its parameters; one that it does not have is 0."""
+@dataclass(frozen=True)
+class Rollup:
+    """A rollup with its parameters."""
 
     name: str
-    first: float = 0.0
-    second: float = 0.0
+    parameters: tuple = ()
+
+    def __post_init__(self):
+        if self.name not in ROLLUPS:
+            raise ValueError(f"rollup: expected the name of one, such as avg, found {self.name!r}")
+        expected = PARAMETERS.get(self.name, ())
+        if len(self.parameters) != len(expected):
+            form = f"{self.name}({', '.join(expected)})" if expected else f"{self.name} without parameters"
+            raise ValueError(f"rollup: expected {form}, found {len(self.parameters)} parameters")
+        if not all(isinstance(parameter, Real) for parameter in self.parameters):
+            raise TypeError(f"rollup: expected numbers as parameters, found {self.parameters}")
+        object.__setattr__(self, "parameters", tuple(map(float, self.parameters)))
 
     @staticmethod
     def of(given):
@@ -47,32 +62,23 @@ class Rollup(NamedTuple):
         if isinstance(given, Rollup):
             return given
         if isinstance(given, str):
-            name, *parameters = _split(given)
-        elif isinstance(given, tuple) and given and isinstance(given[0], str):
-            name, *parameters = given
-        else:
-            raise TypeError(f"rollup: expected the name of one, found {type(given).__name__}")
-        if name not in ROLLUPS:
-            raise ValueError(f"rollup: expected the name of one, such as avg, found {name!r}")
-        expected = PARAMETERS.get(name, ())
-        if len(parameters) != len(expected):
-            form = f"{name}({', '.join(expected)})" if expected else f"{name} without parameters"
-            raise ValueError(f"rollup: expected {form}, found {len(parameters)} parameters")
-        return Rollup(name, *map(float, parameters))
+            return Rollup(*_split(given))
+        if isinstance(given, tuple) and given and isinstance(given[0], str):
+            return Rollup(given[0], given[1:])
+        raise TypeError(f"rollup: expected the name of one, found {type(given).__name__}")
 
     @property
-    def number(self):
-        """The number by which the core knows it."""
-        return ROLLUPS.index(self.name)
+    def choice(self):
+        """The number by which the core knows it, and two parameters, 0 where there is none."""
+        return ROLLUPS.index(self.name), *(*self.parameters, 0.0, 0.0)[:2]
 
     @property
     def sees_marks(self):
         """Whether it sees staleness marks. For all others they are taken out of the series before."""
-        return self.name in ("default", "stale_samples")
+        return self.name in SEE_MARKS
 
     def __str__(self):
-        parameters = self[1 : 1 + len(PARAMETERS.get(self.name, ()))]
-        return f"{self.name}({', '.join(map(repr, parameters))})" if parameters else self.name
+        return f"{self.name}({', '.join(map(repr, self.parameters))})" if self.parameters else self.name
 
 
 def _split(text):
@@ -81,9 +87,7 @@ def _split(text):
     if not found:
         raise ValueError(f"rollup: expected the name of one, such as avg, found {text!r}")
     name, inside = found.groups()
-    if inside is None:
-        return [name]
     try:
-        return [name, *(float(word) for word in inside.split(",") if inside.strip())]
+        return name, tuple(map(float, inside.split(","))) if inside else ()
     except ValueError:
         raise ValueError(f"rollup: expected numbers as parameters, found {text!r}") from None

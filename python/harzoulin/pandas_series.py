@@ -14,7 +14,7 @@ def times_of(index):
     if isinstance(index, pandas.Series):
         index = index.index
     if not isinstance(index, pandas.DatetimeIndex):
-        raise TypeError(f"expected a DatetimeIndex, found {type(index).__name__}")
+        raise TypeError(f"expected a numpy array or a DatetimeIndex, found {type(index).__name__}")
     if index.tz is None or index.tz.utcoffset(None) != timedelta(0):
         raise TypeError(f"expected a DatetimeIndex in UTC, found one in {index.tz}")
     if index.hasnans:
@@ -32,6 +32,8 @@ def arrays_of(series):
     if not isinstance(series, pandas.Series):
         kind = type(series).__name__
         raise TypeError(f"expected times and values, or a pandas Series, found {kind} alone")
+    if not isinstance(series.dtype, np.dtype):
+        raise TypeError(f"values: expected float64, found {series.dtype}")
     return times_of(series.index), series.to_numpy()
 
 

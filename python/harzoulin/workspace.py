@@ -17,7 +17,7 @@ from .settings import MOST, Settings, SettledSettings
 _NO_TIME = np.iinfo(np.int64).max
 
 
-@dataclass(frozen=True)
+@dataclass(frozen=True, eq=False)
 class Figures:
     """The answer of a run.
 
@@ -93,7 +93,7 @@ class Workspace:
             figures = self._figures(*arrays_of(timestamps), rollup, pre, settings)
             return figures.as_pandas(timestamps.name)
         read = lent.series(timestamps, values)
-        (_, times), (_, values) = read
+        times, values = (each.array for each in read)
         if isinstance(settings, Settings):
             settings = settings.over(times)
         points, readings = settings.points(), _length(times)

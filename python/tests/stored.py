@@ -8,7 +8,8 @@ import numpy as np
 from samples import ROOT
 
 import harzoulin
-from harzoulin import ROLLUPS, STEPS, Refused, Rollup, Settled
+from harzoulin import ROLLUPS, STEPS, Refused, Settled
+from harzoulin.names import SEE_MARKS
 
 
 class Words:
@@ -90,11 +91,11 @@ class Run:
 
     def remaining(self, name):
         """The times of the readings that the figures of a rollup are made of."""
-        return self.times if Rollup(name).sees_marks else self.bare[0]
+        return self.times if name in SEE_MARKS else self.bare[0]
 
     def prepared(self, name):
         """Their prepared values."""
-        return self.values if Rollup(name).sees_marks else self.bare_prepared
+        return self.values if name in SEE_MARKS else self.bare_prepared
 
     @property
     def points(self):
@@ -108,9 +109,9 @@ def _run(words):
     series = words.ints(readings), words.floats(readings)
     settings, kinds = words.settings(), [words.outcome(), words.outcome()]
     words.word()
-    outcomes = {name: kinds[Rollup(name).sees_marks] for name in ROLLUPS}
+    outcomes = {name: kinds[name in SEE_MARKS] for name in ROLLUPS}
     points = [0 if isinstance(kind, Refused) else kind[0].points for kind in kinds]
-    answers = {name: words.floats(points[Rollup(name).sees_marks]) for name in ROLLUPS}
+    answers = {name: words.floats(points[name in SEE_MARKS]) for name in ROLLUPS}
     words.end()
     return Run(pre, parameters, *series, settings, outcomes, answers)
 

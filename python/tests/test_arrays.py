@@ -25,7 +25,7 @@ from samples import (
 
 import harzoulin
 from harzoulin import Converted, Workspace, lent
-from harzoulin.arrays import readable, slices
+from harzoulin.arrays import Handed, readable, slices
 
 each_way = pytest.mark.parametrize("through", WAYS)
 each_call = pytest.mark.parametrize("call", READ)
@@ -259,6 +259,9 @@ def test_one_array_is_not_written_twice_nor_read_and_written():
         lent.run(**{**READ["run"], **room, "prepared": room["work"]})
     with pytest.raises(ValueError, match="^prepared overlaps values: "):
         lent.prepare(TIMES, room["work"][:4], pre="none", prepared=room["work"][:4])
+    # A copy is read where the array is no slice, but what is written overlaps the array all the same.
+    with pytest.raises(ValueError, match="^prepared overlaps values: "), pytest.warns(Converted):
+        lent.prepare(TIMES, room["work"][:8:2], pre="none", prepared=room["work"][4:])
     # Neighbours are apart, and what is read may overlap.
     lent.prepare(TIMES, room["work"][:4], pre="none", prepared=room["work"][4:])
     both = np.zeros(4, np.int64)
@@ -280,7 +283,8 @@ def test_arrays_are_read_where_they_are(through, call, kind, monkeypatch, tmp_pa
     with warnings.catch_warnings():
         warnings.simplefilter("error")
         assert through(call, **arrays) == expected
-    assert handed[: 2 * len(arrays)] == list(slices(*arrays.values()))
+    read = (Handed(name, array, array) for name, array in arrays.items())
+    assert handed[: 2 * len(arrays)] == list(slices(read))
 
 
 @each_written
@@ -328,7 +332,7 @@ def test_a_series_without_readings_is_accepted(through, call, kind, tmp_path):
 
 def test_no_slice_without_entries_has_a_null_pointer():
     for empty in (np.zeros(0), SimpleNamespace(size=0, __array_interface__={"data": (0, False)})):
-        pointer, length = slices(empty)
+        pointer, length = slices([Handed("values", empty, empty)])
         assert pointer % 8 == 0 and (pointer != 0, length) == (True, 0)
 
 

@@ -12,6 +12,7 @@ from samples import ROOT
 
 import harzoulin
 from harzoulin import ROLLUPS, STALE, STEPS, Rollup, Settings, SettledSettings, exported, names
+from harzoulin.names import PARAMETERS, SEE_MARKS
 from harzoulin.refusal import SENTENCES
 
 HEADER = (ROOT / "include/harzoulin.h").read_text("utf-8")
@@ -99,7 +100,13 @@ def test_steps_have_the_numbers_of_the_header():
 
 def test_rollups_have_the_numbers_of_the_header():
     assert dict(enumerate(ROLLUPS)) == without("ROLLUP_", constants("harzoulin_rollup"))
-    assert [Rollup(name).number for name in ROLLUPS] == list(range(50))
+    rollups = [Rollup(name, (0.5,) * len(PARAMETERS.get(name, ()))) for name in ROLLUPS]
+    assert [rollup.choice[0] for rollup in rollups] == list(range(50))
+
+
+def test_a_parameter_that_a_rollup_does_not_have_is_0():
+    rollups = Rollup("avg"), Rollup("quantile", (0.9,)), Rollup("holt_winters", (0.5, 0.1))
+    assert [rollup.choice[1:] for rollup in rollups] == [(0.0, 0.0), (0.9, 0.0), (0.5, 0.1)]
 
 
 def test_refusals_have_the_numbers_of_the_header():
@@ -131,14 +138,14 @@ def rust_table():
 def test_rollups_and_their_parameters_are_those_of_the_rust_library():
     table = rust_table()
     assert tuple(table) == ROLLUPS
-    assert names.PARAMETERS == {name: listed for name, (_, listed) in table.items() if listed}
+    assert PARAMETERS == {name: listed for name, (_, listed) in table.items() if listed}
 
 
 def test_rollups_that_see_marks_are_those_of_the_rust_library():
     text = (RUST / "rollup.rs").read_text("utf-8")
     body = text.split("pub fn sees_marks(self)")[1].split("}")[0]
     seeing = re.findall(r"Rollup::(\w+)", body)
-    found = [variant for name, (variant, _) in rust_table().items() if Rollup(name).sees_marks]
+    found = [variant for name, (variant, _) in rust_table().items() if name in SEE_MARKS]
     assert len(seeing) == 2 and found == seeing
 
 
@@ -146,16 +153,16 @@ def test_rollups_that_see_marks_are_those_of_the_rust_library():
     "given, rollup",
     [
         ("avg", Rollup("avg")),
-        (" quantile( 0.9 ) ", Rollup("quantile", 0.9)),
-        ("holt_winters(0.5, 1)", Rollup("holt_winters", 0.5, 1.0)),
-        (("quantile", -0.0), Rollup("quantile", -0.0)),
+        (" quantile( 0.9 ) ", Rollup("quantile", (0.9,))),
+        ("holt_winters(0.5, 1)", Rollup("holt_winters", (0.5, 1.0))),
+        (("quantile", -0.0), Rollup("quantile", (-0.0,))),
         (("avg",), Rollup("avg")),
-        (Rollup("predict_linear", 60.0), Rollup("predict_linear", 60.0)),
+        (Rollup("predict_linear", (60.0,)), Rollup("predict_linear", (60.0,))),
     ],
 )
 def test_a_rollup_is_known_by_its_name_and_its_parameters(given, rollup):
     found = Rollup.of(given)
-    assert (found.name, *map(repr, found[1:])) == (rollup.name, *map(repr, rollup[1:]))
+    assert (found.name, repr(found.parameters)) == (rollup.name, repr(rollup.parameters))
     assert Rollup.of(str(found)) == rollup
 
 
@@ -168,6 +175,9 @@ def test_a_rollup_is_known_by_its_name_and_its_parameters(given, rollup):
         ("quantile", ValueError),
         ("quantile(0.5, 0.5)", ValueError),
         ("quantile(half)", ValueError),
+        ("avg()", ValueError),
+        ("quantile(0.9,)", ValueError),
+        (("quantile", "0.9"), TypeError),
         (("holt_winters", 0.5), ValueError),
         ((), TypeError),
         (45, TypeError),
