@@ -65,31 +65,38 @@ def rollup(text):
         raise argparse.ArgumentTypeError(str(error).removeprefix("rollup: ")) from None
 
 
+# The options of a run: name, what is read of it, and what it says.
+_OPTIONS = [
+    ("--rollup", {"type": rollup, "action": "append", "required": True}, "such as avg; may be given again"),
+    ("--pre", {"choices": STEPS, "default": "none"}, "prepares the values [none]"),
+    ("--step", {"type": duration}, "from one output time to the next, such as 1d [the window]"),
+    ("--window", {"type": duration, "default": 0}, "the length of a window [the step]"),
+    ("--start", {"type": moment}, "the first output time [the first reading, moved up to a whole step]"),
+    ("--end", {"type": moment}, "no output time is later [the last reading, moved up to a whole step]"),
+    ("--lookback", {"type": duration, "default": 0, "dest": "lookback_delta"}, "the longest reach back"),
+    ("--staleness", {"type": duration, "default": 0, "dest": "min_staleness_interval"}, "the shortest reach"),
+    ("--adjust-window", {"action": "store_true", "dest": "may_adjust_window"}, "raises it to the reach"),
+    ("--default-rollup", {"action": "store_true", "dest": "is_default_rollup"}, "caps it by the lookback"),
+    ("--time-column", {}, "the name of the column of times in CSV"),
+    ("--value-column", {}, "that of values"),
+    ("--name-column", {}, "that of names"),
+    ("--workers", {"type": int, "default": os.cpu_count()}, "processes on this machine [its processors]"),
+    ("--scheduler", {"metavar": "ADDRESS"}, "a Dask scheduler; its workers see SERIES by the same path"),
+]
+
+
 def arguments(words):
     """What the command line asks for."""
     parser = argparse.ArgumentParser(
         prog="python/archive",
-        description="Figures of each series of a folder: a .csv, or a pair NAME.times.npy and NAME.values.npy. "
-        "What is there whole is not made again, so that a run that was ended goes on where it was.",
+        description="Figures of each series of a folder: a .csv, or a pair NAME.times.npy and "
+        "NAME.values.npy. What is there whole is not made again: a run that was ended goes on where it was.",
         epilog="The exit status is 0, 1 where a series was refused or could not be read, 2 for bad usage.",
     )
-    add = parser.add_argument
-    add("series", type=Path, metavar="SERIES", help="the folder of series")
-    add("figures", type=Path, metavar="FIGURES", help="the folder of figures, made if need be")
-    add("--rollup", type=rollup, action="append", required=True, help="such as avg or 'quantile(0.9)'; may be repeated")
-    add("--pre", choices=STEPS, default="none", help="prepares the values [none]")
-    add("--step", type=duration, help="from one output time to the next, such as 1d [the window]")
-    add("--window", type=duration, default=0, help="the length of a window [the step]")
-    add("--start", type=moment, help="the first output time [the first reading, moved up to a whole step]")
-    add("--end", type=moment, help="the last output time [the last reading, moved up to a whole step]")
-    add("--lookback", type=duration, default=0, dest="lookback_delta", help="the longest reach back")
-    add("--staleness", type=duration, default=0, dest="min_staleness_interval", help="the shortest reach back")
-    add("--adjust-window", action="store_true", dest="may_adjust_window", help="raises the window to the reach")
-    add("--default-rollup", action="store_true", dest="is_default_rollup", help="caps the window by the lookback")
-    for column in ("time", "value", "name"):
-        add(f"--{column}-column", help=f"the name of the column of {column}s in CSV")
-    add("--workers", type=int, default=os.cpu_count(), help="processes on this machine [its processors]")
-    add("--scheduler", metavar="ADDRESS", help="a Dask scheduler whose workers see both folders by these paths")
+    parser.add_argument("series", type=Path, metavar="SERIES", help="the folder of series")
+    parser.add_argument("figures", type=Path, metavar="FIGURES", help="that of figures")
+    for name, how, says in _OPTIONS:
+        parser.add_argument(name, help=says, **how)
     given = parser.parse_args(words)
     if given.step is None and given.window == 0:
         parser.error("expected --step or --window")

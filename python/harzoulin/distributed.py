@@ -78,6 +78,7 @@ def run_many(client, sources, *, rollup, pre="none", prepared=False, ahead=None,
     """
     rollups = [Rollup.of(each) for each in (rollup if isinstance(rollup, list) else [rollup])]
     step_number(pre)
+    ahead = _AHEAD * max(sum(client.nthreads().values()), 1) if ahead is None else _counted("ahead", ahead)
     task = partial(_results, rollups, pre, asdict(Settings(**settings)), prepared)
     waiting = enumerate(map(source_of, sources))
     under_way, done = {}, as_completed()
@@ -89,7 +90,7 @@ def run_many(client, sources, *, rollup, pre="none", prepared=False, ahead=None,
         done.update(futures)
 
     try:
-        submit(ahead or _AHEAD * max(sum(client.nthreads().values()), 1))
+        submit(ahead)
         for batch in done.batches():
             answers = _gathered(client, batch)
             taken = [under_way.pop(future) for future in batch]
@@ -120,20 +121,21 @@ def run_one(client, series, *, rollup, pre="none", pieces=None, **settings):
     """The figures of one series, worked out by all workers: answers, count, remaining times and prepared
     values as `run` gives them, to the bit.
 
-    The series is settled once and its grid cut into stretches of about equal work; each is a settled run with
-    the window and the reach of the whole, and they are joined. That the cut cannot be seen is proved for every
-    cut of every accepted run: theorem `cut-rejoins` of crates/claims (`Rejoined` of specs/Cut.antt) says that
-    the answers joined are the run's, bit for bit, and that the counts add up to its count and the samples once
-    more for each piece after the first; `stretches-cut` that any split of a grid into consecutive stretches is
-    such a cut.
+    The series is settled once and its grid cut into stretches of about equal work; each is a settled run
+    with the window and the reach of the whole, and they are joined. That the cut cannot be seen is proved
+    for every cut of every accepted run: theorem `cut-rejoins` of crates/claims (`Rejoined` of
+    specs/Cut.antt) says that the answers joined are the run's, bit for bit, and that the counts add up to
+    its count and the samples once more for each piece after the first; `stretches-cut` that any split of a
+    grid into consecutive stretches is such a cut.
 
-    `series` is a source as of `run_many` with one series, a pair of numpy arrays, or a pandas Series. Arrays are
-    sent to each worker, a file or a function is read by each. `pieces` is how many stretches there are, one for
-    each output time at the most; without it up to four for each thread, as far as that pays: a piece begins
-    with a pass over the whole series. The settings are those of `Settings`. A refusal is raised.
+    `series` is a source as of `run_many` with one series, a pair of numpy arrays, or a pandas Series, which
+    comes out as one. Arrays are sent to each worker, a file or a function is read by each. `pieces` is how
+    many stretches there are, one for each output time at the most; without it up to four for each thread,
+    as far as that pays: a piece begins with a pass over the whole series. The settings are those of
+    `Settings`. A refusal is raised.
     """
-    if pieces is not None and whole("pieces", pieces) < 1:
-        raise ValueError(f"pieces: expected 1 or more, found {pieces}")
+    if pieces is not None:
+        _counted("pieces", pieces)
     rollup, asked = Rollup.of(rollup), asdict(Settings(**settings))
     step_number(pre)
     is_pandas = type(series).__module__.partition(".")[0] == "pandas"
@@ -146,6 +148,13 @@ def run_one(client, series, *, rollup, pre="none", pieces=None, **settings):
     finally:
         held.forget()
     return figures.as_pandas(series.name) if is_pandas else figures
+
+
+def _counted(name, number):
+    """A whole number from 1 on."""
+    if whole(name, number) < 1:
+        raise ValueError(f"{name}: expected 1 or more, found {number}")
+    return number
 
 
 def _results(rollups, pre, settings, prepared, placed):
@@ -197,8 +206,8 @@ def _plan(series, rollup, pre, settings, pieces, threads):
 
 
 def _piece(series, rollup, pre, settled, first):
-    """A settled run, and how many readings it goes by. The remaining times and the prepared values are the same
-    in all pieces; the first one gives them."""
+    """A settled run, and how many readings it goes by. The remaining times and the prepared values are the
+    same in all pieces; the first one gives them."""
     figures = settled_run(series.timestamps, series.values, rollup=rollup, pre=pre, **asdict(settled))
     samples = len(figures.remaining)
     if not first:
@@ -236,8 +245,8 @@ class _Held:
             self.source = source_of(given)
 
     def answers(self, calls):
-        """What the calls give, each with its place, as they come. A call that is lost with its worker is asked
-        again."""
+        """What the calls give, each with its place, as they come. A call that is lost with its worker is
+        asked again."""
         left, lost = dict(enumerate(calls)), 0
         while left:
             before = len(left)
@@ -249,19 +258,25 @@ class _Held:
                 raise RuntimeError(f"the workers were lost {lost} times in a row")
 
     def _round(self, left):
-        """Asks each of the calls once, and gives the answers of those that were not lost: a call that hangs on
-        arrays which no worker has any more is cancelled."""
-        series = self._sent() if self.arrays else self.source
+        """Asks each of the calls once, and gives the answers of those that were not lost: a call is cancelled
+        where no worker has the arrays any more that it hangs on."""
+        try:
+            series = self._sent() if self.arrays else self.source
+        except OSError:
+            return
         calls = list(left.values())
         futures = self.client.map(_asked, calls, token=self.token, series=series, pure=False)
         places = dict(zip(futures, left))
         try:
             for future, answer in as_completed(futures, with_results=True, raise_errors=False):
                 place = places.pop(future)
-                if future.status == "error" or isinstance(answer, Exception) and future.status == "finished":
-                    raise _error(answer)
-                if future.status == "finished":
-                    yield place, answer
+                if future.status == "cancelled":
+                    continue
+                if future.status == "error":
+                    _, answer, _ = answer
+                if isinstance(answer, Exception):
+                    raise answer
+                yield place, answer
         finally:
             self.client.cancel(list(places))
 
@@ -275,8 +290,10 @@ class _Held:
         self.client.run(_forget, self.token, on_error="ignore")
 
 
-# The series that a worker has at hand, by the token of the run, so that it is read or copied once.
+# The series that a worker has at hand, by the token of the run, so that it is read or copied once. A piece
+# that is still worked out when its run has failed would leave its own here for ever: the eldest goes.
 _at_hand, _reading = {}, threading.Lock()
+_MOST_AT_HAND = 4
 
 
 def _asked(call, token, series):
@@ -286,6 +303,8 @@ def _asked(call, token, series):
             if token not in _at_hand:
                 _at_hand[token] = _ready(series)
             series = _at_hand[token]
+            if len(_at_hand) > _MOST_AT_HAND:
+                del _at_hand[next(iter(_at_hand))]
         return call(series)
     except Exception as error:
         return error
@@ -307,8 +326,3 @@ def _ready(series):
 
 def _forget(token):
     _at_hand.pop(token, None)
-
-
-def _error(answer):
-    """The exception of a future that has no result."""
-    return answer[1] if isinstance(answer, tuple) else answer

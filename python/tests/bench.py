@@ -55,7 +55,7 @@ def best(function):
 
 
 def core(paths, asked):
-    """The seconds that the core takes for all series, one after the other, in memory that it has used before."""
+    """The seconds that the core takes for all series, one after the other, in memory that is used again."""
     arrays = [[np.load(path) for path in pair] for pair in paths[:4]]
     each = [best(lambda pair=pair: harzoulin.run(*pair, **asked)) for pair in arrays]
     return sum(each) / len(each) * len(paths)
@@ -90,7 +90,7 @@ def many(folder):
             for asked in (HOURLY, SORTED):
                 bare = core(paths, asked)
                 took = [timed(client, paths, asked) for client in (one, two)]
-                speeds = (f"{count / t:,.0f}" if count / t >= 20 else f"{count / t:.2f}" for t in (bare, *took))
+                speeds = (f"{count / t:,.{0 if count / t >= 20 else 2}f}" for t in (bare, *took))
                 rates = (f"{count * readings / t / 1e6:,.1f}" for t in (bare, *took))
                 shares = (f"{max(0, 1 - bare / n / t):.0%}" for n, t in zip((1, 2), took))
                 rows.append([asked["rollup"], f"{count:,} × {readings:,}", *speeds, *rates, *shares])
@@ -122,7 +122,8 @@ def pieces(folder):
             for count in (None, 1, 2, 4, 8, 16, 32, 100):
                 took = [best(lambda: run_one(client, pair, pieces=count, **asked)) for client in (one, two)]
                 ratios = [f"{bare / t:.2f}" for t in took]
-                rows.append([asked["rollup"], str(count), f"{bare:.2f}", *(f"{t:.2f}" for t in took), *ratios])
+                seconds = (f"{t:.2f}" for t in (bare, *took))
+                rows.append([asked["rollup"], str(count), *seconds, *ratios])
     head = "rollup", "pieces", "run, seconds", "1 worker", "2 workers", "run over 1 worker", "over 2 workers"
     table(head, *rows)
 
@@ -143,7 +144,8 @@ def memory(folder):
                     given = paths[0] if kind == "run_one" else tuple(np.load(path) for path in paths[0])
                     run_one(client, given, pieces=4, **HOURLY)
                 more = peak(client) - before
-            rows.append([kind, f"{readings:,}", f"{before:,.0f}", f"{more:,.0f}", f"{more * 2**20 / readings:,.0f}"])
+            numbers = readings, before, more, more * 2**20 / readings
+            rows.append([kind, *(f"{number:,.0f}" for number in numbers)])
         shutil.rmtree(place)
     table(("call", "readings a series", "MiB before", "MiB more", "bytes a reading"), *rows)
 

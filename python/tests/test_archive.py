@@ -137,8 +137,8 @@ def test_a_name_too_long_for_a_file_fails_by_itself(make, tmp_path):
 
 def test_limits_and_grid_reach_the_core(make, tmp_path):
     fill(tmp_path / "in", ["a"])
-    words = "--rollup count --pre resets_once --window 2m --start 1970-01-01 --end 1970-01-01T01:00:00Z".split()
-    words += "--lookback 3m --staleness 1m30s --step 30s".split()
+    words = "--rollup count --pre resets_once --window 2m --lookback 3m --staleness 1m30s --step 30s"
+    words = f"{words} --start 1970-01-01 --end 1970-01-01T01:00:00Z".split()
     assert make(asked=words)[0] == 0
     asked = {"rollup": "count", "pre": "resets_once", "window": 120_000, "step": 30_000, "start": 0}
     asked |= {"end": 3_600_000, "lookback_delta": 180_000, "min_staleness_interval": 90_000}

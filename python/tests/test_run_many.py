@@ -136,7 +136,7 @@ def test_results_come_as_they_are_worked_out_and_sources_are_taken_as_they_are_n
 
 
 def test_wrong_names_and_settings_are_errors_before_anything_is_asked(client):
-    for change in ({"rollup": "average"}, {"pre": "no"}, {"stepp": 1}, {"step": 1.5}):
+    for change in ({"rollup": "average"}, {"pre": "no"}, {"stepp": 1}, {"step": 1.5}, {"ahead": 0}):
         with pytest.raises((TypeError, ValueError)):
             next(run_many(client, [series], **(ASKED | change)))
     with pytest.raises(TypeError, match="expected a pair of .npy files"):

@@ -15,6 +15,7 @@ from harzoulin import Refused
 from harzoulin.distributed import run_one
 
 PIECES = 1, 2, 3, 7, 100
+GRID = {"step": 30_000, "window": 90_000}
 PARAMETERS = {"quantile": (0.9,), "predict_linear": (3600.0,), "holt_winters": (0.5, 0.1)}
 
 
@@ -50,15 +51,14 @@ def test_every_rollup_has_the_bits_of_a_run_in_any_number_of_pieces(client, file
 
     def same(case):
         rollup, pieces = case
-        asked = {"rollup": (rollup, *PARAMETERS.get(rollup, ())), "pre": pre, "step": 30_000, "window": 90_000}
+        asked = {"rollup": (rollup, *PARAMETERS.get(rollup, ())), "pre": pre, **GRID}
         whole = answer(harzoulin.run, times, values, **asked)
         return answer(run_one, client, files, pieces=pieces, **asked) == whole
 
     with ThreadPoolExecutor(8) as threads:
         results = list(threads.map(same, cases))
     assert [case for case, fits in zip(cases, results) if not fits] == []
-    points = (times[-1] - times[0]) // 30_000
-    assert points > 100 and len(results) == len(cases)
+    assert len(harzoulin.run(times, values, rollup="avg", **GRID).values) > 100
 
 
 @pytest.mark.parametrize("kind", ["arrays", "strided arrays", "function", "files"])

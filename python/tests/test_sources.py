@@ -59,10 +59,11 @@ def test_figures_of_a_csv_are_those_of_the_command(tmp_path):
     command = [sources.COMMAND, "--rollup", "default", "--step", "6h", "--times", "ms", data]
     lines = subprocess.run(command, capture_output=True, text=True, check=True).stdout.splitlines()[1:]
     stale = harzoulin.is_stale(figures.values)
-    texts = ["stale" if mark else value for mark, value in zip(stale, figures.values)]
+    texts = ["stale" if mark else value for mark, value in zip(stale, figures.values.tolist())]
     rows = [line.split(",") for line in lines]
     assert [int(time) for time, _ in rows] == figures.times.tolist() and stale.any()
-    assert [text if text == "stale" else float(text) for _, text in rows] == pytest.approx(texts, nan_ok=True, abs=0)
+    read = [text if text == "stale" else float(text) for _, text in rows]
+    assert repr(read) == repr(texts)
 
 
 def test_without_the_command_the_error_says_who_writes_it(monkeypatch, tmp_path):
@@ -80,7 +81,8 @@ def test_npy_files_are_mapped(tmp_path):
     for path, array in zip(paths, (np.empty(0, np.int64), np.empty(0))):
         np.save(path, array)
     (found,), _ = Npy(*paths).read()
-    assert len(harzoulin.run(found.timestamps, found.values, rollup="count", start=0, end=9, step=1).values) == 10
+    asked = {"rollup": "count", "start": 0, "end": 9, "step": 1}
+    assert len(harzoulin.run(found.timestamps, found.values, **asked).values) == 10
 
 
 def test_a_source_is_told_by_its_kind(tmp_path, monkeypatch):
