@@ -1,6 +1,6 @@
 """How runs by workers compare with the bare core on the same series: tables in Markdown.
 
-Each time is the best of three. Files are read once before, so that they are in the system's memory: what a
+Each time is the best of three, or of one where that takes over four seconds. Files are read once before, so that they are in the system's memory: what a
 disk or a network adds is worked out in docs/SCALE.md.
 """
 
@@ -45,9 +45,9 @@ def saved(folder, count, readings):
 
 
 def best(function):
-    """The least seconds of three calls."""
+    """The least seconds of three calls, or of one that takes long."""
     took = []
-    for _ in range(3):
+    while len(took) < 3 and sum(took) < 4:
         begin = time.perf_counter()
         function()
         took.append(time.perf_counter() - begin)
@@ -56,9 +56,8 @@ def best(function):
 
 def core(paths, asked):
     """The seconds that the core takes for all series, one after the other, in memory that is used again."""
-    arrays = [[np.load(path) for path in pair] for pair in paths[:4]]
-    each = [best(lambda pair=pair: harzoulin.run(*pair, **asked)) for pair in arrays]
-    return sum(each) / len(each) * len(paths)
+    arrays = [np.load(path) for path in paths[0]]
+    return best(lambda: harzoulin.run(*arrays, **asked)) * len(paths)
 
 
 def table(head, *rows):
@@ -86,8 +85,8 @@ def many(folder):
         for count, readings in ((2000, 10_000), (400, 100_000), (60, 1_000_000), (6, LONGEST)):
             place = folder / str(readings)
             place.mkdir()
-            paths = saved(place, count, readings)
-            for asked in (HOURLY, SORTED):
+            for asked, count in ((HOURLY, count), (SORTED, max(count // 10, 4))):
+                paths = saved(place, count, readings)
                 bare = core(paths, asked)
                 took = [timed(client, paths, asked) for client in (one, two)]
                 speeds = (f"{count / t:,.{0 if count / t >= 20 else 2}f}" for t in (bare, *took))
