@@ -47,14 +47,20 @@ def moment(text):
     if re.fullmatch(r"[-+]?\d+", text):
         return int(text)
     try:
+        if not re.fullmatch(r"\d{4}-\d\d-\d\d(T\d\d:\d\d:\d\d(\.\d{1,3})?Z)?", text):
+            raise ValueError("neither a date nor a time in UTC")
         given = datetime.fromisoformat(text)
     except ValueError:
-        given = None
-    if given is None or given.tzinfo is None and len(text) != 10:
-        raise argparse.ArgumentTypeError(
-            f"expected milliseconds, a date, or a time as 2026-01-31T12:00:00Z, found {text!r}"
-        )
-    return milliseconds_of("time", given if given.tzinfo else given.replace(tzinfo=timezone.utc))
+        expected = "milliseconds, a date, or a time as 2026-01-31T12:00:00Z"
+        raise argparse.ArgumentTypeError(f"expected {expected}, found {text!r}") from None
+    return milliseconds_of("time", given.replace(tzinfo=timezone.utc))
+
+
+def positive(text):
+    """A whole number from 1 on."""
+    if not re.fullmatch(r"0*[1-9]\d*", text):
+        raise argparse.ArgumentTypeError(f"expected a whole number from 1 on, found {text!r}")
+    return int(text)
 
 
 def rollup(text):
@@ -80,7 +86,7 @@ _OPTIONS = [
     ("--time-column", {}, "the name of the column of times in CSV"),
     ("--value-column", {}, "that of values"),
     ("--name-column", {}, "that of names"),
-    ("--workers", {"type": int, "default": os.cpu_count()}, "processes on this machine [its processors]"),
+    ("--workers", {"type": positive, "default": os.cpu_count()}, "processes on this machine [its processors]"),
     ("--scheduler", {"metavar": "ADDRESS"}, "a Dask scheduler; its workers see SERIES by the same path"),
 ]
 
@@ -98,8 +104,10 @@ def arguments(words):
     for name, how, says in _OPTIONS:
         parser.add_argument(name, help=says, **how)
     given = parser.parse_args(words)
-    if given.step is None and given.window == 0:
-        parser.error("expected --step or --window")
+    try:
+        Settings(**settings_of(given))
+    except (TypeError, ValueError) as error:
+        parser.error(str(error))
     if not given.series.is_dir():
         parser.error(f"{given.series} is no folder")
     if given.figures.exists() and given.figures.samefile(given.series):
@@ -107,21 +115,27 @@ def arguments(words):
     return given
 
 
+def settings_of(given):
+    """What the command line says of the settings of a run."""
+    return {name: value for name, value in vars(given).items() if name in Settings.__dataclass_fields__}
+
+
 def sources(folder, columns):
     """The sources of a folder by their names, and what is wrong with others."""
     found, wrong = {}, []
     for path in sorted(folder.resolve().iterdir()):
-        if path.suffix == ".csv":
-            name, source = path.stem, Csv(str(path), **columns)
-        elif path.name.endswith(".times.npy"):
-            name = path.name.removesuffix(".times.npy")
-            values = path.with_name(f"{name}.values.npy")
-            if not values.exists():
-                wrong.append(f"{path.name}: expected {values.name} beside it")
-                continue
-            source = Npy(str(path), str(values))
-        else:
+        kind = re.search(r"\.csv$|\.(times|values)\.npy$", path.name)
+        if not kind:
             continue
+        name = path.name[: kind.start()]
+        pair = [path.with_name(f"{name}.{part}.npy") for part in ("times", "values")]
+        missing = [other.name for other in pair if kind[1] and not other.exists()]
+        if missing:
+            wrong.append(f"{path.name}: expected {missing[0]} beside it")
+            continue
+        if kind[1] == "values":
+            continue
+        source = Npy(*map(str, pair)) if kind[1] else Csv(str(path), **columns)
         if name in found:
             wrong.append(f"{path.name}: there is another source of that name")
         found.setdefault(name, source)
@@ -248,8 +262,7 @@ def make(given, client):
     """Makes what is not there, and gives the exit status."""
     columns = {f"{kind}_column": getattr(given, f"{kind}_column") for kind in ("time", "value", "name")}
     found, wrong = sources(given.series, columns)
-    names = Settings.__dataclass_fields__
-    settings = {name: value for name, value in vars(given).items() if name in names}
+    settings = settings_of(given)
     asked = {"rollups": list(map(str, given.rollup)), "pre": given.pre, **settings, **columns}
     folder = Figures(given.figures)
     if not folder.holds(asked):
@@ -291,6 +304,18 @@ def by_source(run, left):
 def main(words):
     """The script."""
     given = arguments(words)
+    try:
+        return work_out(given)
+    except KeyboardInterrupt:
+        print("\nended; the same command goes on from here", file=sys.stderr)
+        return 130
+    except OSError as error:
+        print(f"python/archive: {error}", file=sys.stderr)
+        return 1
+
+
+def work_out(given):
+    """Makes the figures by the workers of this machine or of a scheduler, and gives the exit status."""
     if given.scheduler:
         with Client(given.scheduler) as client:
             return make(given, client)

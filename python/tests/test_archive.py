@@ -119,13 +119,16 @@ def test_what_cannot_be_read_is_said_and_tried_again(make, tmp_path):
     fill(tmp_path / "in", ["good"])
     (tmp_path / "in" / "bad.csv").write_text("0,one\n")
     (tmp_path / "in" / "half.times.npy").write_bytes(b"")
+    (tmp_path / "in" / "other.values.npy").write_bytes(b"")
     (tmp_path / "in" / "good.csv").write_text("0,1\n")
     status, said = make()
-    assert status == 1 and said.endswith("1 sources made, 0 there already, 3 failed; 0 figures refused\n")
-    for text in ("bad.csv:1: expected a number", "half.values.npy beside it", "another source of that name"):
+    assert status == 1 and said.endswith("1 sources made, 0 there already, 4 failed; 0 figures refused\n")
+    for text in ("bad.csv:1: expected a number", "another source of that name"):
         assert text in said
+    for text in ("half.times.npy: expected half.values.npy", "other.values.npy: expected other.times.npy"):
+        assert f"{text} beside it" in said
     (tmp_path / "in" / "bad.csv").write_text("0,1\n")
-    assert "1 sources made, 1 there already, 2 failed" in make()[1]
+    assert "1 sources made, 1 there already, 3 failed" in make()[1]
 
 
 def test_a_name_too_long_for_a_file_fails_by_itself(make, tmp_path):
@@ -155,6 +158,9 @@ def test_limits_and_grid_reach_the_core(make, tmp_path):
         ["in", "out", "--rollup", "avg", "--step", "1 day"],
         ["in", "out", "--rollup", "avg", "--step", "1d", "--start", "yesterday"],
         ["in", "out", "--rollup", "avg", "--step", "1d", "--start", "2026-01-01T00:00:00"],
+        ["in", "out", "--rollup", "avg", "--step", "1d", "--start", "2026-13-01"],
+        ["in", "out", "--rollup", "avg", "--step", "1d", "--end", str(2**63)],
+        ["in", "out", "--rollup", "avg", "--step", "1d", "--workers", "0"],
         ["none", "out", "--rollup", "avg", "--step", "1d"],
         ["in", "in", "--rollup", "avg", "--step", "1d"],
     ],
@@ -198,3 +204,15 @@ def test_a_terminal_has_a_bar(tmp_path):
     )
     assert ended.returncode == 0 and "2 of 2 sources, 0 figures refused, 0 s left" in ended.stdout
     assert "2 sources made, 0 there already, 0 failed; 0 figures refused" in ended.stdout
+
+
+def test_an_interrupt_ends_the_script_with_a_word(tmp_path):
+    fill(tmp_path / "in", [f"s{place:03}" for place in range(200)])
+    command = [SCRIPT, tmp_path / "in", tmp_path / "out", *ASKED, "--workers", "1"]
+    running = subprocess.Popen(command, stderr=subprocess.PIPE, text=True)
+    deadline = time.monotonic() + 60
+    while not list((tmp_path / "out").glob("*.json")) and time.monotonic() < deadline:
+        time.sleep(0.002)
+    running.send_signal(signal.SIGINT)
+    said = running.communicate(timeout=60)[1]
+    assert running.returncode == 130 and "ended; the same command goes on from here" in said
