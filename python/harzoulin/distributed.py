@@ -15,7 +15,7 @@ import uuid
 import warnings
 from dataclasses import asdict, dataclass, replace
 from functools import partial
-from itertools import islice
+from itertools import chain, islice
 from typing import Any
 
 import numpy as np
@@ -81,7 +81,7 @@ def run_many(client, sources, *, rollup, pre="none", prepared=False, ahead=None,
     ahead = _AHEAD * max(sum(client.nthreads().values()), 1) if ahead is None else _counted("ahead", ahead)
     task = partial(_results, rollups, pre, asdict(Settings(**settings)), prepared)
     waiting = enumerate(map(source_of, sources))
-    under_way, done = {}, as_completed()
+    under_way, done = {}, as_completed(loop=client.loop)
 
     def submit(count):
         taken = list(islice(waiting, count))
@@ -91,25 +91,27 @@ def run_many(client, sources, *, rollup, pre="none", prepared=False, ahead=None,
 
     try:
         submit(ahead)
-        for batch in done.batches():
-            answers = _gathered(client, batch)
-            taken = [under_way.pop(future) for future in batch]
-            submit(len(batch))
-            for (place, source), answer in zip(taken, answers):
+        for batch in _answered(client, done):
+            answers = [(*under_way.pop(future), answer) for future, answer in batch]
+            submit(len(answers))
+            for place, source, answer in answers:
                 yield from [Result(place, source, error=answer)] if isinstance(answer, Exception) else answer
     finally:
         client.cancel(list(under_way))
 
 
-def _gathered(client, batch):
-    """The results of futures: in one message, or one by one where some have failed."""
-    try:
-        return client.gather(batch)
-    except Exception:
-        return [_result(future) for future in batch]
+def _answered(client, done):
+    """Futures that are done, each with its result or its error, as many at a time as there are: their results
+    come in one message, or one by one where some have failed."""
+    for batch in done.batches():
+        try:
+            answers = client.gather(batch)
+        except Exception:
+            answers = map(_answer, batch)
+        yield list(zip(batch, answers))
 
 
-def _result(future):
+def _answer(future):
     """The result of a future, or its error."""
     try:
         return future.result()
@@ -267,13 +269,12 @@ class _Held:
         calls = list(left.values())
         futures = self.client.map(_asked, calls, token=self.token, series=series, pure=False)
         places = dict(zip(futures, left))
+        done = as_completed(futures, loop=self.client.loop)
         try:
-            for future, answer in as_completed(futures, with_results=True, raise_errors=False):
+            for future, answer in chain.from_iterable(_answered(self.client, done)):
                 place = places.pop(future)
-                if future.status == "cancelled":
+                if future.cancelled():
                     continue
-                if future.status == "error":
-                    _, answer, _ = answer
                 if isinstance(answer, Exception):
                     raise answer
                 yield place, answer

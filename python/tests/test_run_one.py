@@ -147,6 +147,13 @@ def test_no_worker_keeps_a_series_that_was_worked_out(client, files):
     assert set(client.run(kept).values()) == {0}
 
 
+def test_another_client_that_was_made_later_is_left_alone(client, files, tmp_path):
+    whole = bits(harzoulin.run(*series(), rollup="avg", step=60_000))
+    with client_of(1, tmp_path) as later:
+        for each in (client, later, client):
+            assert bits(run_one(each, files, rollup="avg", step=60_000, pieces=9)) == whole
+
+
 def finished(dask_scheduler):
     """How many pieces are done, and how many are not."""
     states = [task.state for key, task in dask_scheduler.tasks.items() if "_asked" in str(key)]
