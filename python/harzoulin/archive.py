@@ -86,7 +86,7 @@ _OPTIONS = [
     ("--time-column", {}, "the name of the column of times in CSV"),
     ("--value-column", {}, "that of values"),
     ("--name-column", {}, "that of names"),
-    ("--workers", {"type": positive, "default": os.cpu_count()}, "processes on this machine [its processors]"),
+    ("--workers", {"type": positive, "default": os.cpu_count()}, "processes on this machine [as processors]"),
     ("--scheduler", {"metavar": "ADDRESS"}, "a Dask scheduler; its workers see SERIES by the same path"),
 ]
 

@@ -119,7 +119,7 @@ def _answer(future):
         return error
 
 
-def run_one(client, series, *, rollup, pre="none", pieces=None, **settings):
+def run_one(client, series, *, rollup, pre="none", pieces=None, prepared=True, **settings):
     """The figures of one series, worked out by all workers: answers, count, remaining times and prepared
     values as `run` gives them, to the bit.
 
@@ -133,8 +133,9 @@ def run_one(client, series, *, rollup, pre="none", pieces=None, **settings):
     `series` is a source as of `run_many` with one series, a pair of numpy arrays, or a pandas Series, which
     comes out as one. Arrays are sent to each worker, a file or a function is read by each. `pieces` is how
     many stretches there are, one for each output time at the most; without it up to four for each thread,
-    as far as that pays: a piece begins with a pass over the whole series. The settings are those of
-    `Settings`. A refusal is raised.
+    as far as that pays: a piece begins with a pass over the whole series. Remaining times and prepared
+    values are 16 bytes a reading to be sent, which may take longer than the figures: `prepared=False` leaves
+    them out. The settings are those of `Settings`. A refusal is raised.
     """
     if pieces is not None:
         _counted("pieces", pieces)
@@ -146,7 +147,7 @@ def run_one(client, series, *, rollup, pre="none", pieces=None, **settings):
         threads = max(sum(client.nthreads().values()), 1)
         plan = partial(_plan, rollup=rollup, pre=pre, settings=asked, pieces=pieces, threads=threads)
         ((_, plan),) = held.answers([plan])
-        figures = _joined(held, plan, rollup, pre)
+        figures = _joined(held, plan, rollup, pre, prepared)
     finally:
         held.forget()
     return figures.as_pandas(series.name) if is_pandas else figures
@@ -175,8 +176,7 @@ def _results(rollups, pre, settings, prepared, placed):
             except Exception as error:
                 results.append(replace(result, error=error))
             else:
-                bare = figures if prepared else replace(figures, remaining=None, prepared=None)
-                results.append(replace(result, figures=bare))
+                results.append(replace(result, figures=figures if prepared else figures.bare()))
     return results
 
 
@@ -207,23 +207,20 @@ def _plan(series, rollup, pre, settings, pieces, threads):
     return _Plan(settled, cut(places, worked, pieces or pays(len(times), worked, threads)))
 
 
-def _piece(series, rollup, pre, settled, first):
-    """A settled run, and how many readings it goes by. The remaining times and the prepared values are the
-    same in all pieces; the first one gives them."""
+def _piece(series, rollup, pre, settled, prepared):
+    """A settled run, and how many readings it goes by."""
     figures = settled_run(series.timestamps, series.values, rollup=rollup, pre=pre, **asdict(settled))
-    samples = len(figures.remaining)
-    if not first:
-        figures = replace(figures, remaining=None, prepared=None)
-    return figures, samples
+    return figures if prepared else figures.bare(), len(figures.remaining)
 
 
-def _joined(held, plan, rollup, pre):
-    """The pieces of a plan, worked out and joined."""
+def _joined(held, plan, rollup, pre, prepared):
+    """The pieces of a plan, worked out and joined. The remaining times and the prepared values are the same
+    in all pieces; the first one gives them."""
     settled, cuts = plan.settled, plan.cuts
     stretches = list(zip(cuts, cuts[1:]))
     parts = (settled.part(begin, end - begin) for begin, end in stretches)
     piece = partial(_piece, rollup=rollup, pre=pre)
-    calls = [partial(piece, settled=part, first=place == 0) for place, part in enumerate(parts)]
+    calls = [partial(piece, settled=part, prepared=prepared and not i) for i, part in enumerate(parts)]
     points = cuts[-1]
     values, scanned, first = np.empty(points), 0, None
     for place, (figures, samples) in held.answers(calls):

@@ -28,7 +28,8 @@ class Figures:
         the others those that are no marks.
     prepared: the values of those readings after the preparing step.
 
-    Of a pandas Series, `values` and `prepared` are Series, `times` and `remaining` DatetimeIndexes.
+    Of a pandas Series, `values` and `prepared` are Series, `times` and `remaining` DatetimeIndexes. Where
+    they were left out, `remaining` and `prepared` are None.
     """
 
     times: Any
@@ -37,15 +38,18 @@ class Figures:
     remaining: Any = None
     prepared: Any = None
 
+    def bare(self):
+        """The same without remaining times and prepared values."""
+        return replace(self, remaining=None, prepared=None)
+
     def as_pandas(self, name):
         """The same as Series and DatetimeIndexes."""
-        return replace(
-            self,
-            times=index_of(self.times),
-            values=series_of(self.times, self.values, name),
-            remaining=index_of(self.remaining),
-            prepared=series_of(self.remaining, self.prepared, name),
-        )
+        times, values = index_of(self.times), series_of(self.times, self.values, name)
+        figures = replace(self, times=times, values=values)
+        if self.remaining is None:
+            return figures
+        prepared = series_of(self.remaining, self.prepared, name)
+        return replace(figures, remaining=prepared.index, prepared=prepared)
 
 
 class Workspace:

@@ -1,14 +1,14 @@
 """How runs by workers compare with the bare core on the same series: tables in Markdown.
 
-Each time is the best of three, or of one where that takes over four seconds. Files are read once before, so that they are in the system's memory: what a
-disk or a network adds is worked out in docs/SCALE.md.
+Each time is the best of three, or of one where that takes over four seconds. Files have just been written,
+so that they are in the system's memory: what a disk or a network adds is worked out in docs/SCALE.md.
 """
 
-import resource
 import shutil
 import sys
 import tempfile
 import time
+from functools import partial
 from pathlib import Path
 
 import numpy as np
@@ -111,20 +111,23 @@ def growth(folder):
 
 
 def pieces(folder):
-    """How run_one grows with the number of pieces."""
+    """How run_one grows with the number of pieces, without the prepared values, and the time for those."""
     rows = []
     (pair,) = saved(folder, 1, LONGEST)
     arrays = [np.load(path) for path in pair]
     with client_of(1, folder / "one") as one, client_of(2, folder / "two") as two:
         for asked in (HOURLY, SORTED):
             bare = best(lambda: harzoulin.run(*arrays, **asked))
-            for count in (None, 1, 2, 4, 8, 16, 32, 100):
-                took = [best(lambda: run_one(client, pair, pieces=count, **asked)) for client in (one, two)]
+            for count in (None, 1, 2, 8, 32, 100):
+                bare_run = partial(run_one, prepared=False, pieces=count, **asked)
+                took = [best(lambda: bare_run(client, pair)) for client in (one, two)]
                 ratios = [f"{bare / t:.2f}" for t in took]
                 seconds = (f"{t:.2f}" for t in (bare, *took))
                 rows.append([asked["rollup"], str(count), *seconds, *ratios])
+        sent = [best(lambda: run_one(two, pair, prepared=prepared, **HOURLY)) for prepared in (False, True)]
     head = "rollup", "pieces", "run, seconds", "1 worker", "2 workers", "run over 1 worker", "over 2 workers"
     table(head, *rows)
+    print(f"Prepared values and remaining times: {sent[1] - sent[0]:.2f} seconds.\n", flush=True)
 
 
 def memory(folder):
@@ -153,7 +156,8 @@ def peak(client):
     """The most mebibytes that the worker had in memory, files that are mapped there included."""
 
     def most():
-        return resource.getrusage(resource.RUSAGE_SELF).ru_maxrss / 1024
+        lines = Path("/proc/self/status").read_text().splitlines()
+        return next(int(line.split()[1]) for line in lines if line.startswith("VmHWM:")) / 1024
 
     return max(client.run(most).values())
 

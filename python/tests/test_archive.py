@@ -6,6 +6,7 @@ import shutil
 import signal
 import subprocess
 import time
+from functools import partial
 from pathlib import Path
 
 import numpy as np
@@ -209,7 +210,9 @@ def test_a_terminal_has_a_bar(tmp_path):
 def test_an_interrupt_ends_the_script_with_a_word(tmp_path):
     fill(tmp_path / "in", [f"s{place:03}" for place in range(200)])
     command = [SCRIPT, tmp_path / "in", tmp_path / "out", *ASKED, "--workers", "1"]
-    running = subprocess.Popen(command, stderr=subprocess.PIPE, text=True)
+    # Tests that are run in the background may have been told to ignore interrupts.
+    heed = partial(signal.signal, signal.SIGINT, signal.SIG_DFL)
+    running = subprocess.Popen(command, stderr=subprocess.PIPE, text=True, preexec_fn=heed)
     deadline = time.monotonic() + 60
     while not list((tmp_path / "out").glob("*.json")) and time.monotonic() < deadline:
         time.sleep(0.002)

@@ -82,6 +82,14 @@ def test_any_source_and_any_limits(client, files, kind, limits):
         assert bits(figures) == bits(whole)
 
 
+def test_prepared_values_can_be_left_out(client, files):
+    whole = harzoulin.run(*series(), rollup="avg", step=60_000)
+    for given in (files, pandas.Series(series()[1], pandas.to_datetime(series()[0], unit="ms", utc=True))):
+        figures = run_one(client, given, rollup="avg", step=60_000, pieces=3, prepared=False)
+        assert np.asarray(figures.values).tobytes() == whole.values.tobytes()
+        assert (figures.count, figures.remaining, figures.prepared) == (whole.count, None, None)
+
+
 def test_a_pandas_series_comes_out_as_one(client):
     times, values = series()
     given = pandas.Series(values, index=pandas.to_datetime(times, unit="ms", utc=True), name="probe")
