@@ -1,7 +1,7 @@
 """How runs by workers compare with the bare core on the same series: tables in Markdown.
 
-Each time is the best of three, or of one where that takes over four seconds. Files have just been written,
-so that they are in the system's memory: what a disk or a network adds is worked out in docs/SCALE.md.
+Each time is the best of ten, or of as many as begin within four seconds. Files have just been written, so
+that they are in the system's memory: what a disk or a network adds is worked out in docs/SCALE.md.
 """
 
 import shutil
@@ -45,9 +45,9 @@ def saved(folder, count, readings):
 
 
 def best(function):
-    """The least seconds of three calls, or of one that takes long."""
+    """The least seconds of ten calls, or of as many as begin within four seconds."""
     took = []
-    while len(took) < 3 and sum(took) < 4:
+    while len(took) < 10 and sum(took) < 4:
         begin = time.perf_counter()
         function()
         took.append(time.perf_counter() - begin)
