@@ -175,7 +175,7 @@ def test_bad_usage_has_status_2(tmp_path, monkeypatch, words, capsys):
 
 
 def test_a_script_that_is_killed_goes_on_where_it_was(tmp_path):
-    names = [f"s{place:03}" for place in range(60)]
+    names = [f"s{place:03}" for place in range(200)]
     fill(tmp_path / "in", names)
     command = [SCRIPT, tmp_path / "in", tmp_path / "out", *ASKED, "--workers", "1"]
     running = subprocess.Popen(command, stderr=subprocess.DEVNULL, start_new_session=True)
