@@ -158,15 +158,18 @@ class Figures:
     def __init__(self, folder):
         self.folder = folder
         folder.mkdir(parents=True, exist_ok=True)
-        for left in folder.rglob(".*.part"):
-            left.unlink()
 
     def holds(self, asked):
-        """Notes what is asked for; False where the folder holds what was asked for otherwise."""
+        """Notes what is asked for in an empty folder; False where one holds anything else. What was left
+        unfinished in a folder of this question is removed."""
         path = self.folder / ".asked"
-        if not path.exists():
+        if not any(self.folder.iterdir()):
             self.write(path, asked)
-        return json.loads(path.read_bytes()) == asked
+        if not path.exists() or json.loads(path.read_bytes()) != asked:
+            return False
+        for left in self.folder.rglob(".*.part"):
+            left.unlink()
+        return True
 
     def whole(self, name, source):
         """What became of a source, where that is there whole and made from the files as they are now."""
@@ -266,7 +269,7 @@ def make(given, client):
     asked = {"rollups": list(map(str, given.rollup)), "pre": given.pre, **settings, **columns}
     folder = Figures(given.figures)
     if not folder.holds(asked):
-        text = "holds figures that were asked for otherwise, as its file .asked says"
+        text = "holds something else: figures that were asked for otherwise, as its file .asked says, or none"
         print(f"python/archive: {given.figures} {text}", file=sys.stderr)
         return 2
     there = {name: became for name, source in found.items() if (became := folder.whole(name, source))}

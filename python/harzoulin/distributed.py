@@ -189,18 +189,17 @@ class _Plan:
 
 
 def _plan(series, rollup, pre, settings, pieces, threads):
-    """What `run` refuses is refused; else the run is settled and cut."""
+    """What `run` refuses for its series or its settings is refused; else the run is settled and cut. Row 19
+    comes after those of the slices, and the pieces meet it."""
     read = lent.series(series.timestamps, series.values)
     settings = Settings(**settings).over(read[0].array)
-    # Lent no slices, a run is refused for these only if its series and settings are accepted.
+    # Lent no slices, a run is refused for these, row 12 first, only if its series and settings are accepted.
     nothing = np.empty(0), np.empty(0), np.empty(0, np.int64), np.empty(0)
     try:
         lent.figures(read, rollup, pre, settings, nothing)
     except Refused as refusal:
         if refusal.number != 12:
             raise
-    if rollup.sees_marks and pre != "none":
-        raise Refused(19)
     times = remaining_times(read[0].array, read[1].array, rollup)
     settled = settings.settled(lent.settle(times, **asdict(settings)))
     places, worked = work(times, settled)

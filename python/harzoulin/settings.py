@@ -4,17 +4,20 @@ import operator
 from dataclasses import dataclass, replace
 from datetime import datetime, timedelta, timezone
 
+import numpy as np
+
 # The most readings of a series, and the most output times of a grid.
 MOST = 16_777_216
 
 _LEAST_INT, _MOST_INT = -(2**63), 2**63 - 1
 _EPOCH = datetime(1970, 1, 1, tzinfo=timezone.utc)
 _MILLISECOND = timedelta(milliseconds=1)
+_TRUTH = bool, np.bool_
 
 
 def whole(name, number, least=_LEAST_INT, most=_MOST_INT):
     """A whole number that fits where the core has it; what the core refuses is left to the core."""
-    if _is_truth(number):
+    if isinstance(number, _TRUTH):
         raise TypeError(f"{name}: expected a whole number, found {number}")
     try:
         number = operator.index(number)
@@ -46,16 +49,26 @@ def duration(name, given):
 
 def truth(name, given):
     """True or False."""
-    if not _is_truth(given):
+    if not isinstance(given, _TRUTH):
         raise TypeError(f"{name}: expected True or False, found {type(given).__name__}")
     return bool(given)
 
 
-def _is_truth(given):
-    return type(given).__name__ in ("bool", "bool_")
+def per_call(name, given):
+    """A number that an output time adds to the count."""
+    return whole(name, given, 0, 2**64 - 1)
 
 
 class _Grid:
+    def _take(self, read, *names):
+        """Reads the fields of these names."""
+        for name in names:
+            object.__setattr__(self, name, read(name, getattr(self, name)))
+
+    def numbers(self):
+        """The settings in the order in which the core takes them."""
+        return vars(self).values()
+
     def points(self):
         """The number of output times; 0 where rows 6, 7 or 11 refuse the grid."""
         if not (1 <= self.step <= 2**50 and -(2**50) <= self.start <= self.end <= 2**50):
@@ -100,22 +113,14 @@ class Settings(_Grid):
     samples_scanned_per_call: int = 0
 
     def __post_init__(self):
-        for name in ("start", "end"):
-            given = getattr(self, name)
-            self._set(name, None if given is None else time(name, given))
-        for name in ("window", "lookback_delta", "min_staleness_interval"):
-            self._set(name, duration(name, getattr(self, name)))
+        self._take(time, *(name for name in ("start", "end") if getattr(self, name) is not None))
+        self._take(duration, "window", "lookback_delta", "min_staleness_interval")
         if self.step is None and self.window == 0:
             raise TypeError("expected a step or a window")
-        self._set("step", self.window if self.step is None else duration("step", self.step))
-        for name in ("may_adjust_window", "is_default_rollup"):
-            self._set(name, truth(name, getattr(self, name)))
-        self._set("max_points_per_series", whole("max_points_per_series", self.max_points_per_series))
-        per_call = whole("samples_scanned_per_call", self.samples_scanned_per_call, 0, 2**64 - 1)
-        self._set("samples_scanned_per_call", per_call)
-
-    def _set(self, name, number):
-        object.__setattr__(self, name, number)
+        self._take(lambda name, step: self.window if step is None else duration(name, step), "step")
+        self._take(truth, "may_adjust_window", "is_default_rollup")
+        self._take(whole, "max_points_per_series")
+        self._take(per_call, "samples_scanned_per_call")
 
     def over(self, timestamps):
         """The settings for a series of these times, with a grid of its own where none is given."""
@@ -136,10 +141,6 @@ class Settings(_Grid):
         return SettledSettings(
             self.start, self.end, self.step, settled.window, settled.reach, self.samples_scanned_per_call
         )
-
-    def numbers(self):
-        """The settings in the order in which the core takes them."""
-        return vars(self).values()
 
 
 @dataclass(frozen=True)
@@ -164,13 +165,6 @@ class SettledSettings(_Grid):
     samples_scanned_per_call: int = 0
 
     def __post_init__(self):
-        for name in ("start", "end"):
-            object.__setattr__(self, name, time(name, getattr(self, name)))
-        for name in ("step", "window", "reach"):
-            object.__setattr__(self, name, duration(name, getattr(self, name)))
-        per_call = whole("samples_scanned_per_call", self.samples_scanned_per_call, 0, 2**64 - 1)
-        object.__setattr__(self, "samples_scanned_per_call", per_call)
-
-    def numbers(self):
-        """The settings in the order in which the core takes them."""
-        return vars(self).values()
+        self._take(time, "start", "end")
+        self._take(duration, "step", "window", "reach")
+        self._take(per_call, "samples_scanned_per_call")

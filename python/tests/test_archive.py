@@ -91,6 +91,16 @@ def test_a_folder_of_figures_is_of_one_question(make, tmp_path):
     assert status == 2 and "asked for otherwise" in said and changes(tmp_path / "out") == before
 
 
+def test_a_folder_of_anything_else_is_left_as_it_is(make, tmp_path):
+    fill(tmp_path / "in", ["a"])
+    (tmp_path / "out").mkdir()
+    (tmp_path / "out" / "a.json").write_text("somebody's")
+    (tmp_path / "out" / ".a.part").write_text("somebody's, too")
+    before = changes(tmp_path / "out")
+    status, said = make()
+    assert status == 2 and "holds something else" in said and changes(tmp_path / "out") == before
+
+
 def test_series_of_a_csv_have_a_folder(make, tmp_path):
     (tmp_path / "in").mkdir()
     (tmp_path / "in" / "drives.csv").write_text("name,time,value\nA/1,0,1\nA/1,60000,3\n..,0,5\n")
