@@ -3,7 +3,7 @@
 // one case.
 #![tactic(auto)]
 
-ghost use Rattle.std.specs.Prelude.{IfOk, IfSome, None, cond, ◌≡◌, ◌^◌, ◌≤◌, ◌<◌, eqb, drop, length, take, List, Option};
+ghost use Rattle.std.specs.Prelude.{IfOk, IfSome, None, cond, ◌≡◌, ◌^◌, ◌≤◌, ◌<◌, eqb, drop, length, take, vec_len, List, Option};
 ghost use Rattle.replay.specs.Replayed.{Replayed};
 ghost use Rattle.replay.specs.Tally.{After, Counted, begun, differed, passed};
 ghost use Rattle.vectors.specs.Words.{body_of};
@@ -17,10 +17,13 @@ const LONGEST: u64 = 0x40_0000;
 
 // Reads a list until it ends, or LONGEST bytes of it.
 pub fn read<R: Read + Drop>(list: R, alloc: Global) -> io::Result<Vec<u8>>
-    ensures { IfOk result (λ text. IfSome (R.remaining list) (λ bytes. text.items ≡ take (2 ^ 22) bytes)) }
+    ensures bytes { IfOk result (λ text. IfSome (R.remaining list) (λ bytes. text.items ≡ take (2 ^ 22) bytes)) }
+    ensures size { IfOk result (λ text. vec_len text ≤ 2 ^ 22) }
 {
     let mut text = Vec::new(alloc);
     list.take(LONGEST).read_to_end(&mut text)?;
+    // No more came. Of a reader whose bytes are not known `take` does not say so.
+    text.truncate(LONGEST as usize);
     Ok(text)
 }
 

@@ -46,11 +46,12 @@ fn value(words: &mut Cursor) -> Result<f64, Unread> {
     Ok(ieee::value_of(words.word()?))
 }
 
-// The time that the next two words are: whether there is one, and the time, 0 where there is none.
+// The time that the next two words are: whether there is one, and the time, 0 where there is none. A time that is not in range is kept in
+// either case, so that the case counts as a difference.
 fn time_if_any(words: &mut Cursor) -> Result<Option<i64>, Unread> {
     let any = words.number()? != 0;
     let time = words.number()?;
-    Ok(any.then_some(time))
+    Ok((any || !in_range(time)).then_some(time))
 }
 
 // The record that the next eight words are.

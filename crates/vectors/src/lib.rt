@@ -16,7 +16,7 @@ use std::array;
 const DIGITS: usize = 16;
 
 // The bytes of a word and of what follows it.
-const STEP: usize = 17;
+pub const STEP: usize = 17;
 
 // The most readings that a case has.
 pub const MOST: usize = 64;
