@@ -18,14 +18,14 @@ use lib.Ieee.Fits.{nan-fits}
 use borrow.Author.Tests.{le-leb, not-false}
 use Rattle.settings.specs.Rows.{outside, settled_outside, settled_row8}
 use Rattle.rollup.specs.declared.handler.RollupHandler.{RollupHandler}
-use Rattle.std.specs.Prelude.{Ok}
+use Rattle.std.specs.Prelude.{Ok, is_some}
 use Rattle.series.specs.declared.refusal.Refusal.TheVariants.{WindowOutside}
 use Rattle.series.proofs.Accepted.{fails}
 use Rattle.times.specs.Readings.{filter, cons_if}
 use Rattle.times.proofs.Order.{le_trans, lt_not_le, sub-le}
 use Rattle.outputs.specs.Figures.{answer}
 use Rattle.record.specs.Record.{Reading, inside, before, after, last_if_any, window, earlier, later, next, time_of, bits_of, value_of, only_if, or_nan, later_than, reached, where_any, predecessor, as_field, Record, record_at}
-use Rattle.claims.specs.Agree.{Agree, Bits, NoNan, Prepared, Seen, Unmarked, record_bits}
+use Rattle.claims.specs.Agree.{Agree, Bits, NoNan, Prepared, Seen, Unmarked, has_next, next_time, record_bits, time_or_0}
 use Rattle.claims.proofs.Prepared.{Number, Numbers, prepared-numbers, seen-numbers}
 
 abbrev NumberIn : Option Reading → Type 0
@@ -99,6 +99,14 @@ told-field (some x) (some y) e = cc
 abbrev some? : {A : Type 0} → Option A → Bool
 some? none = false
 some? (some x) = true
+
+-- what the record at t tells of the first reading after t
+pub next-told : (s : List Reading) (w r t : ℤ) → (has_next (record_at s w r t) ≡ some? (next s w t)) × (next_time (record_at s w r t) ≡ get_or (time_of (next s w t)) (pos 0))
+next-told s w r t = told (next s w t)
+  where
+    told : (x : Option Reading) → (is_some (as_field (time_of x)) ≡ some? x) × (time_or_0 (as_field (time_of x)) ≡ get_or (time_of x) (pos 0))
+    told none = (refl, refl)
+    told (some x) = (refl, refl)
 
 -- a time is told from the 0 that stands for none by whether there is a reading
 told-next : (x y : Option Reading) → some? x ≡ some? y → get_or (time_of x) (pos 0) ≡ get_or (time_of y) (pos 0) → time_of x ≡ time_of y

@@ -1,6 +1,6 @@
 -- When two series hand a rollup equal records (docs/CLAIMS.md): which series are meant, when two records are equal, and what the two series agree on.
 -- Assumes nothing.
-use Rattle.std.specs.Prelude.{List, [], ◌∷◌, ◌≡◌, false, ℕ, ◌^◌, ◌<◌, ℤ, Option}
+use Rattle.std.specs.Prelude.{List, [], ◌∷◌, ◌≡◌, Bool, false, ℕ, ◌^◌, ◌<◌, ℤ, pos, Option, Some, None, is_some}
 use Rattle.std.proofs.Math.Option.{IsSome}
 use Rattle.std.specs.Float.{binary64}
 use Rattle.std.specs.Float.Ieee.{is_nan, of_bits, to_bits}
@@ -64,6 +64,17 @@ record_bits x = record {
   window = x.arg.window;
   readings = x.window;
 }
+
+-- of the first reading after t a record tells whether there is one, and its time, 0 if not: its field holds both
+abbrev pub has_next : Record → Bool
+has_next x = is_some x.arg.next_timestamp
+
+abbrev pub time_or_0 : Option ℤ → ℤ
+time_or_0 None = pos 0
+time_or_0 (Some t) = t
+
+abbrev pub next_time : Record → ℤ
+next_time x = time_or_0 x.arg.next_timestamp
 
 -- the two series agree, bit for bit, at the output time t, for the window w and the reach r
 pub record Agree (a b : List Reading) (w r t : ℤ) : Type 0 where
